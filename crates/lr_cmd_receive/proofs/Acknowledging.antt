@@ -11,14 +11,16 @@ use Rattle.lr_shelf.specs.InitialShelves.{InitialShelf, HoldsStill, StandsForPre
 use Rattle.lr_shelf.specs.InitialShelves.{StandsWithEither, next_number}
 use Rattle.lr_shelf.proofs.InitialPrefixes.{front_more}
 use Rattle.lr_cmd_receive.specs.Inputs.{files_of_bytes}
+use Rattle.lr_cmd_receive.specs.Noted.{NotedFile, placed_files}
+use Rattle.lr_cmd_receive.proofs.Noted.{length-placed, placed-append}
 use Rattle.lr_cmd_receive.specs.Reception.{FewWait, taken_bytes}
 use Rattle.lr_cmd_receive.specs.Shelving.{AreAcknowledged, shelved_lines, files_onto}
 use Rattle.lr_cmd_receive.proofs.ShelvedLines.{shelved_lines-append}
 
 module _ {D O : Type 0} (world : OutletsOf D O) (initial : InitialShelf) where
   -- they stand there still
-  pub still_acknowledged : (first others : List Placed) (w w' : Outlets D O)
-      → HoldsStill initial first world.disk w'.disk
+  pub still_acknowledged : (first others : List NotedFile) (w w' : Outlets D O)
+      → HoldsStill initial (placed_files first) world.disk w'.disk
       → (world.out.tells w.out → (text : List ℕ) × (world.out.contents w'.out
       ≡ world.out.contents w.out ++ (shelved_lines (next_number initial) first ++ text)))
       → AreAcknowledged world (files_onto initial (first ++ others)) first w w'
@@ -26,50 +28,62 @@ module _ {D O : Type 0} (world : OutletsOf D O) (initial : InitialShelf) where
     others = others;
     split = refl;
     held = record {
-      contents =
-          record { first = first; rest = others; split = refl; enough = omega arith; stands = durable.stands };
+      contents = record {
+        first = placed_files first;
+        rest = placed_files others;
+        split = placed-append first others;
+        enough = omega (arith, length-placed first);
+        stands = durable.stands;
+      };
       images = λ c image. record {
-        first = first;
-        rest = others;
-        split = refl;
-        enough = omega arith;
-        stands = subst (StandsWith initial first) (sym (durable.durable c image)) durable.stands;
+        first = placed_files first;
+        rest = placed_files others;
+        split = placed-append first others;
+        enough = omega (arith, length-placed first);
+        stands = subst (StandsWith initial (placed_files first)) (sym (durable.durable c image)) durable.stands;
       };
     };
     told = told;
   }
 
-  either_front : (done : List Placed) (placed : Placed) (bytes : List ℕ) → StandsWithEither initial done placed bytes
-      → StandsForPrefix initial (done ++ placed ∷ []) (length done) bytes
-  either_front done placed bytes (inl s) =
-      record { first = done; rest = placed ∷ []; split = refl; enough = omega arith; stands = s }
-  either_front done placed bytes (inr s) = record {
-    first = done ++ placed ∷ [];
+  either_front : (done : List NotedFile) (noted : NotedFile) (bytes : List ℕ)
+      → StandsWithEither initial (placed_files done) noted.placed bytes
+      → StandsForPrefix initial (placed_files (done ++ noted ∷ [])) (length done) bytes
+  either_front done noted bytes (inl s) = record {
+    first = placed_files done;
+    rest = noted.placed ∷ [];
+    split = placed-append done (noted ∷ []);
+    enough = omega (arith, length-placed done);
+    stands = s;
+  }
+  either_front done noted bytes (inr s) = record {
+    first = placed_files done ++ noted.placed ∷ [];
     rest = [];
-    split = sym (append-nil (done ++ placed ∷ []));
-    enough = omega (arith, length-append done (placed ∷ []));
+    split = placed-append done (noted ∷ []) ∙ sym (append-nil (placed_files done ++ noted.placed ∷ []));
+    enough = omega (arith, length-placed done, length-append (placed_files done) (noted.placed ∷ []));
     stands = s;
   }
 
   -- one file more may stand there
-  pub either_acknowledged : (done : List Placed) (placed : Placed) (w w' : Outlets D O)
-      → StandsWithEither initial done placed (world.disk.contents w'.disk)
-      → ((c : List ℕ) → world.disk.may_leave w'.disk c → StandsWithEither initial done placed c)
+  pub either_acknowledged : (done : List NotedFile) (noted : NotedFile) (w w' : Outlets D O)
+      → StandsWithEither initial (placed_files done) noted.placed (world.disk.contents w'.disk)
+      → ((c : List ℕ) → world.disk.may_leave w'.disk c
+      → StandsWithEither initial (placed_files done) noted.placed c)
       → (world.out.tells w.out → (text : List ℕ) × (world.out.contents w'.out
       ≡ world.out.contents w.out ++ (shelved_lines (next_number initial) done ++ text)))
-      → AreAcknowledged world (files_onto initial (done ++ placed ∷ [])) done w w'
-  either_acknowledged done placed w w' now left told = record {
-    others = placed ∷ [];
+      → AreAcknowledged world (files_onto initial (done ++ noted ∷ [])) done w w'
+  either_acknowledged done noted w w' now left told = record {
+    others = noted ∷ [];
     split = refl;
     held = record {
-      contents = either_front done placed (world.disk.contents w'.disk) now;
-      images = λ c image. either_front done placed c (left c image);
+      contents = either_front done noted (world.disk.contents w'.disk) now;
+      images = λ c image. either_front done noted c (left c image);
     };
     told = told;
   }
 
   -- their lines were put, and nothing else
-  pub lines_alone : (first : List Placed) (w w' : Outlets D O)
+  pub lines_alone : (first : List NotedFile) (w w' : Outlets D O)
       → (world.out.tells w.out
       → world.out.contents w'.out ≡ world.out.contents w.out ++ shelved_lines (next_number initial) first)
       → world.out.tells w.out → (text : List ℕ) × (world.out.contents w'.out
@@ -92,21 +106,27 @@ module _ {D O : Type 0} (world : OutletsOf D O) (initial : InitialShelf) where
 
   module _ {w w' : Outlets D O} where
     -- files that are still to come
-    pub acknowledged_more : {first files : List Placed} (more : List Placed)
+    pub acknowledged_more : {first files : List NotedFile} (more : List NotedFile)
         → AreAcknowledged world (files_onto initial files) first w w'
         → AreAcknowledged world (files_onto initial (files ++ more)) first w w'
     acknowledged_more {first} {files} more known = record {
       others = known.others ++ more;
-      split = ap (λ (l : List Placed). l ++ more) known.split ∙ append_assoc first known.others more;
+      split = ap (λ (l : List NotedFile). l ++ more) known.split ∙ append_assoc first known.others more;
       held = record {
-        contents = front_more initial files more (length first) (world.disk.contents w'.disk) known.held.contents;
-        images = λ c image. front_more initial files more (length first) c (known.held.images c image);
+        contents = front (world.disk.contents w'.disk) known.held.contents;
+        images = λ c image. front c (known.held.images c image);
       };
       told = known.told;
     }
+      where
+        front : (bytes : List ℕ) → StandsForPrefix initial (placed_files files) (length first) bytes
+            → StandsForPrefix initial (placed_files (files ++ more)) (length first) bytes
+        front bytes s =
+            subst (λ (l : List Placed). StandsForPrefix initial l (length first) bytes) (sym (placed-append files more))
+            (front_more initial (placed_files files) (placed_files more) (length first) bytes s)
 
     -- the first ones of them
-    pub acknowledged_first : (first others : List Placed) {files : List Placed}
+    pub acknowledged_first : (first others : List NotedFile) {files : List NotedFile}
         → AreAcknowledged world (files_onto initial files) (first ++ others) w w'
         → AreAcknowledged world (files_onto initial files) first w w'
     acknowledged_first first others {files} known =
@@ -117,9 +137,10 @@ module _ {D O : Type 0} (world : OutletsOf D O) (initial : InitialShelf) where
           others = others ++ known.others;
           split = known.split ∙ append_assoc first others known.others;
           held = record {
-            contents = fewer (length first) (length (first ++ others)) files (world.disk.contents w'.disk) le
+            contents = fewer (length first) (length (first ++ others)) (placed_files files)
+                (world.disk.contents w'.disk) le
                 known.held.contents;
-            images = λ c image. fewer (length first) (length (first ++ others)) files c le
+            images = λ c image. fewer (length first) (length (first ++ others)) (placed_files files) c le
                 (known.held.images c image);
           };
           told = λ t.
@@ -132,22 +153,23 @@ module _ {D O : Type 0} (world : OutletsOf D O) (initial : InitialShelf) where
         }
 
   -- all files are acknowledged
-  pub all_acknowledged : (files : List Placed) (w w' : Outlets D O) → HoldsStill initial files world.disk w'.disk
+  pub all_acknowledged : (files : List NotedFile) (w w' : Outlets D O) → HoldsStill initial
+      (placed_files files) world.disk w'.disk
       → (world.out.tells w.out → (text : List ℕ) × (world.out.contents w'.out
       ≡ world.out.contents w.out ++ (shelved_lines (next_number initial) files ++ text)))
       → AreAcknowledged world (files_onto initial files) files w w'
   all_acknowledged files w w' durable told =
-      subst (λ (l : List Placed). AreAcknowledged world (files_onto initial l) files w w') (append-nil files)
+      subst (λ (l : List NotedFile). AreAcknowledged world (files_onto initial l) files w w') (append-nil files)
       (still_acknowledged files [] w w' durable told)
 
   -- all is worked through
-  pub all_worked : (input : Input) (leeway : Leeway) (bytes : List ℕ) (w w' : Outlets D O)
-      → HoldsStill initial (files_of_bytes input bytes) world.disk w'.disk
+  pub all_worked : (mend : ℕ) (input : Input) (leeway : Leeway) (bytes : List ℕ) (w w' : Outlets D O)
+      → HoldsStill initial (placed_files (files_of_bytes mend input bytes)) world.disk w'.disk
       → (world.out.tells w.out → (text : List ℕ) × (world.out.contents w'.out
-      ≡ world.out.contents w.out ++ (shelved_lines (next_number initial) (files_of_bytes input bytes) ++ text)))
-      → FewWait world initial (taken_bytes input leeway bytes) w w'
+      ≡ world.out.contents w.out ++ (shelved_lines (next_number initial) (files_of_bytes mend input bytes) ++ text)))
+      → FewWait world initial (taken_bytes mend input leeway bytes) w w'
   unfolding files_of_bytes
-  all_worked input leeway bytes w w' durable told = record {
+  all_worked mend input leeway bytes w w' durable told = record {
     worked = outcomes_of_bytes input bytes;
     late = [];
     split = sym (append-nil (outcomes_of_bytes input bytes));
@@ -157,5 +179,5 @@ module _ {D O : Type 0} (world : OutletsOf D O) (initial : InitialShelf) where
       come_within input leeway.ahead bytes count come,
       outcomes_counted input bytes,
     );
-    acknowledged = all_acknowledged (files_of_bytes input bytes) w w' durable told;
+    acknowledged = all_acknowledged (files_of_bytes mend input bytes) w w' durable told;
   }

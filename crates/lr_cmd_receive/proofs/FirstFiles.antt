@@ -1,16 +1,14 @@
 -- The files of the first arrivals come first.
-use Rattle.std.proofs.Common.{◌≡◌, List, [], ◌∷◌, ◌++◌, length, ap, ◌∙◌, sym, subst, append_assoc}
+use Rattle.std.proofs.Common.{◌≡◌, List, [], ◌∷◌, ◌++◌, map, length, ap, ◌∙◌, sym, subst, append_assoc}
 use Rattle.std.proofs.Common.{append-nil}
 use Rattle.std.specs.Prelude.{All}
 use Rattle.std.proofs.Common.{ℕ}
 use Rattle.std.proofs.lemmas.List.{map-append}
 use Rattle.std.proofs.lemmas.List.Elements.{All-nil, All-head, All-tail}
 use Rattle.lr_bits.specs.declared.outcome.Outcome.{Outcome}
-use Rattle.lr_bits.specs.declared.placed.Placed.{Placed}
 use Rattle.lr_bits.specs.declared.sizes.TheConstants.{ZONE_BYTES}
 use Rattle.lr_forms.specs.declared.forms.Input.{Input}
 use Rattle.lr_layers.specs.Layers.{frames_of_outcomes}
-use Rattle.lr_layers.specs.Origins.{placed_of_outcomes}
 use Rattle.lr_layers.proofs.GoingOn.{go_on}
 use Rattle.lr_reading.specs.Arrivals.{HasWholeFrame, arrivals_of, outcomes_of_arrivals}
 use Rattle.lr_reading.specs.Inputs.{outcomes_of_bytes}
@@ -18,6 +16,8 @@ use Rattle.lr_reading.specs.declared.arrival.Arrival.{Arrival}
 use Rattle.lr_reading.proofs.Coming.{outcomes_are}
 use Rattle.lr_reading.proofs.Whole.{all_whole}
 use Rattle.lr_cmd_receive.specs.Inputs.{files_of_bytes}
+use Rattle.lr_cmd_receive.specs.Noted.{NotedFile, noted_of_outcomes, noted_where}
+use Rattle.lr_cmd_receive.proofs.Noted.{noted_more}
 use Rattle.lr_cmd_receive.proofs.WholeFrames.{with_outcome}
 use Rattle.lr_vc.specs.Frame.{Fields}
 use Rattle.lr_vc.specs.Runs.{AreChannelFrames}
@@ -39,12 +39,12 @@ no_frames : AreChannelFrames (frames_of_outcomes [])
 unfolding frames_of_outcomes
 no_frames = All-nil (λ (f : Fields). length f.zone ≡ ZONE_BYTES)
 
-pub files_first : (input : Input) (bytes : List ℕ) (passed rest : List Arrival)
+pub files_first : (mend : ℕ) (input : Input) (bytes : List ℕ) (passed rest : List Arrival)
     → arrivals_of input bytes ≡ passed ++ rest
-    → (more : List Placed)
-    × (files_of_bytes input bytes ≡ placed_of_outcomes (outcomes_of_arrivals passed) ++ more)
+    → (more : List NotedFile)
+    × (files_of_bytes mend input bytes ≡ noted_of_outcomes mend (outcomes_of_arrivals passed) ++ more)
 unfolding files_of_bytes
-files_first input bytes passed rest split =
+files_first mend input bytes passed rest split =
     let both : outcomes_of_bytes input bytes ≡ outcomes_of_arrivals passed ++ outcomes_of_arrivals rest =
     outcomes_are input bytes ∙ ap outcomes_of_arrivals split
     ∙ map-append (λ (a : Arrival). a.outcome) passed rest in
@@ -52,8 +52,12 @@ files_first input bytes passed rest split =
     subst (λ (l : List Outcome). AreChannelFrames (frames_of_outcomes l))
     (ap outcomes_of_arrivals split ∙ map-append (λ (a : Arrival). a.outcome) passed rest)
     (frames_whole (arrivals_of input bytes) [] no_frames (all_whole input bytes)) in
-    let law = go_on 0 (outcomes_of_arrivals passed) (outcomes_of_arrivals rest) whole in
-    (law.more_files, ap placed_of_outcomes both ∙ law.files)
+    let law = go_on mend (outcomes_of_arrivals passed) (outcomes_of_arrivals rest) whole in (
+      map (noted_where mend) law.more_marked,
+      ap (noted_of_outcomes mend) both ∙ noted_more mend (outcomes_of_arrivals passed)
+          (outcomes_of_arrivals rest) law.more_marked
+          law.marked,
+    )
 
 -- the frames of all bytes have whole zones
 pub all_frames_whole : (input : Input) (bytes : List ℕ)

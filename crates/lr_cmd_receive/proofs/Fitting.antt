@@ -25,13 +25,13 @@ use Rattle.lr_sent.proofs.MadeFiles.{placed_fit}
 use Rattle.lr_shelf_format.specs.Items.{extent_of, head_of_item}
 use Rattle.lr_shelf_format.specs.ShelfBytes.{end_of}
 use Rattle.lr_shelf.specs.Append.{item_for}
-use Rattle.lr_forms.specs.declared.forms.Input.TheVariants.{Symbols}
 use Rattle.lr_forms.specs.declared.forms.Output.TheVariants.{Symbols as AsSymbols}
 use Rattle.lr_reading.specs.Inputs.{outcomes_of_bytes}
 use Rattle.lr_cmd_receive.specs.Inputs.{files_of_bytes}
 use Rattle.lr_cmd_receive.specs.Made.{made_bytes, test_frames}
 use Rattle.lr_shelf.specs.InitialShelves.{with_files}
-use Rattle.lr_cmd_receive.specs.Trial.{trial_capacity}
+use Rattle.lr_cmd_receive.specs.Trial.{trial_capacity, trial_files}
+use Rattle.lr_cmd_receive.proofs.Noted.{placed_are}
 
 -- ---- symbols in bytes
 
@@ -53,11 +53,12 @@ made_length start wrong n =
 -- ---- the stream's outcomes, and their files
 
 files_made : (start wrong n : ℕ) → ((k : ℕ) → k < n → IsReceivedAs wrong (frame_at start k) (block_at start wrong k))
-    → files_of_bytes (Symbols STANDARD) (made_bytes AsSymbols (test_frames start n wrong))
+    → trial_files (made_bytes AsSymbols (test_frames start n wrong))
     ≡ placed_of_outcomes (made_outcomes start wrong n)
 unfolding files_of_bytes outcomes_of_bytes
 files_made start wrong n received =
-    ap (λ s. placed_of_outcomes (outcomes_of_symbols STANDARD s)) (symbols_made start wrong n)
+    placed_are 0 (outcomes_of_symbols STANDARD (symbols_of (made_bytes AsSymbols (test_frames start n wrong))))
+    ∙ ap (λ s. placed_of_outcomes (outcomes_of_symbols STANDARD s)) (symbols_made start wrong n)
     ∙ ap placed_of_outcomes (stream_is_received start wrong n received)
 
 -- each file takes its room on the shelf
@@ -85,8 +86,7 @@ sent_files_fit start wrong n few =
 
 pub made_files_fit : (start wrong n : ℕ) → n ≤ 1024
     → ((k : ℕ) → k < n → IsReceivedAs wrong (frame_at start k) (block_at start wrong k))
-    → end_of (with_files [] (files_of_bytes (Symbols STANDARD) (made_bytes AsSymbols (test_frames start n wrong)))) ≤
-    trial_capacity
+    → end_of (with_files [] (trial_files (made_bytes AsSymbols (test_frames start n wrong)))) ≤ trial_capacity
 made_files_fit start wrong n few received =
     let fit = sent_files_fit start wrong n few in
     omega (arith, fit, ap (λ files. end_of (with_files [] files)) (files_made start wrong n received))

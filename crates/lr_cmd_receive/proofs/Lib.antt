@@ -8,6 +8,7 @@ pub mod Headline
 pub mod Loading
 pub mod Unloaded
 pub mod Making
+pub mod Noted
 pub mod Pieces
 pub mod ReceiveEnding
 pub mod ShelvedLines

@@ -26,11 +26,12 @@ use Rattle.lr_forms.specs.declared.forms.Input.{Input}
 use Rattle.lr_causes.specs.Counts.{CountsTell}
 use Rattle.lr_cmd_receive.specs.First.{SourceBesides}
 use Rattle.lr_cmd_receive.specs.Inputs.{files_of_bytes}
+use Rattle.lr_cmd_receive.specs.Noted.{NotedFile, placed_files}
 use Rattle.lr_reading.specs.Reading.{IsRead}
 use Rattle.lr_shelf.specs.InitialShelves.{InitialShelf, OfItems, OfWay, HoldsStill, StandsWith}
 use Rattle.lr_shelf.specs.InitialShelves.{LeavesPrefixes, next_number}
 use Rattle.lr_cmd_receive.specs.Shelved.{MayStop}
-use Rattle.lr_cmd_receive.specs.Receive.{Receives, IsReceiveCause, IsWorkDone, ReceiveRun, run_onto, receive_query}
+use Rattle.lr_cmd_receive.specs.Receive.{Receives, IsReceiveCause, IsWorkDone, ReceiveRun, intake, run_onto, receive_query}
 use Rattle.lr_cmd_receive.specs.Reception.{FewWait, taken_bytes}
 use Rattle.lr_cmd_receive.specs.Shelving.{shelved_lines}
 use Rattle.lr_cmd_receive.proofs.Acknowledging.{all_worked, lines_alone}
@@ -105,31 +106,32 @@ run_kind cause (inr done) at is = subst (λ (c : Cause). IsWorkDone c) is done
 -- ---- no bytes have no files
 
 -- a full shelf has read some
-pub full_reads : {S : Type 0} (source : SourceOf S) (input : Input) (limit : ℕ) (bytes : List ℕ) (s s' : S)
+pub full_reads : {S : Type 0} (source : SourceOf S) (mend : ℕ) (input : Input) (limit : ℕ) (bytes : List ℕ) (s s' : S)
     → IsRead source limit bytes s s' → source.tells s → source.left s ≡ []
-    → (done : List Placed) (next : Placed) (rest : List Placed) → files_of_bytes input bytes ≡ done ++ next ∷ rest
-    → ⊥
-full_reads source input limit bytes s s' read tells empty done next rest split =
+    → (done : List Placed) (next : Placed) (rest : List Placed)
+    → placed_files (files_of_bytes mend input bytes) ≡ done ++ next ∷ rest → ⊥
+full_reads source mend input limit bytes s s' read tells empty done next rest split =
     let none : bytes ≡ [] = (none_in bytes (source.left s') (sym (read.moved tells) ∙ empty)).0 in
-    some done next rest (sym split ∙ ap (files_of_bytes input) none ∙ no_bytes input)
+    some done next rest
+    (sym split ∙ ap placed_files (ap (files_of_bytes mend input) none ∙ no_bytes mend input))
 
 -- and where none were taken nothing waits
-pub nothing_waits : {S D O : Type 0} (world : World S D O) (initial : InitialShelf) (input : Input) (leeway : Leeway)
-    (w w' : Outside S D O) (d : D) → HoldsStill initial [] world.disk d
-    → FewWait (world_outlets world) initial (taken_bytes input leeway []) (outlets_in w) (outlets d w.out)
-nothing_waits world initial input leeway w w' d still =
-    all_worked (world_outlets world) initial input leeway [] (outlets_in w) (outlets d w.out)
-    (subst (λ (l : List Placed). HoldsStill initial l world.disk d) (sym (no_bytes input)) still)
-    (lines_alone (world_outlets world) initial (files_of_bytes input []) (outlets_in w) (outlets d w.out)
-    (λ t. got_none world.out initial w.out t ∙ ap (λ (l : List Placed). world.out.contents w.out
-    ++ shelved_lines (next_number initial) l) (sym (no_bytes input))))
+pub nothing_waits : {S D O : Type 0} (world : World S D O) (initial : InitialShelf) (mend : ℕ) (input : Input)
+    (leeway : Leeway) (w w' : Outside S D O) (d : D) → HoldsStill initial [] world.disk d
+    → FewWait (world_outlets world) initial (taken_bytes mend input leeway []) (outlets_in w) (outlets d w.out)
+nothing_waits world initial mend input leeway w w' d still =
+    all_worked (world_outlets world) initial mend input leeway [] (outlets_in w) (outlets d w.out)
+    (subst (λ (l : List NotedFile). HoldsStill initial (placed_files l) world.disk d) (sym (no_bytes mend input)) still)
+    (lines_alone (world_outlets world) initial (files_of_bytes mend input []) (outlets_in w) (outlets d w.out)
+    (λ t. got_none world.out initial w.out t ∙ ap (λ (l : List NotedFile). world.out.contents w.out
+    ++ shelved_lines (next_number initial) l) (sym (no_bytes mend input))))
 
 -- ---- memory for reading was refused, before anything was called
 
 module _ {S D O : Type 0} (world : World S D O)
     (only_now : (d : D) (c : List ℕ) → world.disk.tells d → world.disk.left_since d (world.disk.moment d) c
     → world.disk.may_leave d c)
-    (input : Input) (workers limit : ℕ) (w : Outside S D O) (none : world.disk.only_read w.disk w.disk) where
+    (mend : ℕ) (input : Input) (workers limit : ℕ) (w : Outside S D O) (none : world.disk.only_read w.disk w.disk) where
   -- nobody failed
   none_failed : CountsTell SourceBesides NoMemory (counts_in world w) (counts_in world w)
   none_failed = first_stays NoMemory (world.source.faults w.source) (world.source.faults w.source)
@@ -139,23 +141,24 @@ module _ {S D O : Type 0} (world : World S D O)
   nothing_made : (initial : InitialShelf) → world.disk.tells w.disk
       → StandsWith initial [] (world.disk.contents w.disk)
       → NothingPending world.disk w.disk
-      → Receives world (run_onto initial (input_read input limit [])) NoMemory w w
+      → Receives world (run_onto initial (intake mend (input_read input limit []))) NoMemory w w
   nothing_made initial told stands only =
-      receives world input initial limit [] w w NoMemory
-      (subst (λ (l : List Placed). LeavesPrefixes world.disk initial l w.disk w.disk) (sym (no_bytes input))
+      receives world mend input initial limit [] w w NoMemory
+      (subst (λ (l : List NotedFile). LeavesPrefixes world.disk initial (placed_files l) w.disk w.disk)
+      (sym (no_bytes mend input))
       (weaker world.disk.moment world.disk.left_since w.disk w.disk _ _ (front_none initial)
       (stays world.disk only_now w.disk (StandsWith initial []) told
       (λ c left. subst (StandsWith initial []) (sym (only c left)) stands))))
       (record {
         done = [];
         rest = [];
-        split = no_bytes input;
+        split = no_bytes mend input;
         durable = record { stands = stands; durable = only };
         got = got_none world.out initial w.out;
       })
       none_failed
 
-  pub not_made : ReceiveRun world (receive_query input workers limit) NoMemory w w
+  pub not_made : ReceiveRun world (receive_query mend input workers limit) NoMemory w w
   not_made = record {
     causes = tt;
     first = none_failed;
@@ -172,8 +175,8 @@ module _ {S D O : Type 0} (world : World S D O)
         nothing_made (OfWay way (world.disk.contents w.disk)) told (begun_way way (world.disk.contents w.disk) is)
         only;
     keeps_up = λ initial told stands only.
-        none_put_off world input workers initial [] w w w.disk
-        (nothing_waits world initial input (leeway_for input workers) w w w.disk
+        none_put_off world mend input workers initial [] w w w.disk
+        (nothing_waits world initial mend input (leeway_for input workers) w w w.disk
         (record { stands = stands; durable = only refl })) (inl (refl, refl));
     refused = λ at is. cc (is);
     broken = λ at told no. (
@@ -188,8 +191,10 @@ module _ {S D O : Type 0} (world : World S D O)
     unasked = λ none failed. refl;
     ended = λ done. absurd done;
     outside = λ way told is.
-        no_change way (files_of_bytes input []) (world.disk.contents w.disk) (world.disk.contents w.disk) refl;
+        no_change way (placed_files (files_of_bytes mend input [])) (world.disk.contents w.disk)
+        (world.disk.contents w.disk) refl;
     outside_any_moment = λ way told is only.
         stays world.disk only_now w.disk _ told
-        (λ c image. no_change way (files_of_bytes input []) (world.disk.contents w.disk) c (only c image));
+        (λ c image. no_change way (placed_files (files_of_bytes mend input [])) (world.disk.contents w.disk) c
+        (only c image));
   }

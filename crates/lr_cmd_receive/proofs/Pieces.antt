@@ -1,26 +1,34 @@
 -- Files after files: what was shelved, and where shelving stopped.
-use Rattle.std.proofs.Common.{◌≡◌, ℕ, ◌+◌, ◌-◌, ◌<◌, ◌≤◌, List, [], ◌∷◌, ◌++◌, length, take, drop, get_or}
+use Rattle.std.proofs.Common.{◌≡◌, ◌⊎◌, ◌==◌, false, ℕ, ◌+◌, ◌-◌, ◌<◌, ◌≤◌, List, [], ◌∷◌, ◌++◌, map, length, take, drop, get_or}
 use Rattle.std.proofs.Common.{refl, sym, ◌∙◌, ap, subst, append_assoc, append-nil, inl, Result, Ok, Err, OnOk, IfErr}
 use Rattle.std.proofs.Common.{arith, length-append}
+use Rattle.std.specs.Prelude.{slice_get}
 use Rattle.std.proofs.lemmas.List.{drop_all, take_more, take-append-drop}
 use Rattle.lr_bits.specs.declared.outcome.Outcome.{Outcome}
 use Rattle.lr_bits.specs.declared.placed.Placed.{Placed}
 use Rattle.lr_shelf.specs.Prefixes.{end_with}
+use Rattle.lr_shelf_format.specs.Way.{Way}
 use Rattle.lr_shelf.specs.Kept.{kept_by}
 use Rattle.lr_shelf.specs.declared.shelf.Shelf.{Shelf}
 use Rattle.lr_shelf.proofs.Staying.{outside_same}
-use Rattle.lr_layers.specs.Origins.{placed_of_outcomes}
-use Rattle.lr_layers.specs.Standing.{AddsFiles, LayersStandFor, KeptLayers}
+use Rattle.lr_layers.specs.Origins.{fillers_in, mended_of_outcomes, placed_in}
+use Rattle.lr_layers.specs.Standing.{AddsMarked, AddsMended, MendingLayersStandFor, KeptLayers}
+use Rattle.lr_layers.specs.Starts.{Found}
 use Rattle.lr_layers.proofs.GoingOn.{go_on}
 use Rattle.lr_causes.specs.declared.cause.Cause.{Cause}
 use Rattle.lr_causes.specs.declared.cause.Cause.TheVariants.{NoMemory}
+use Rattle.lr_cmd_receive.specs.Noted.{NotedFile, noted_file, noted_of_outcomes, noted_where, noted_with}
+use Rattle.lr_cmd_receive.specs.Noted.{placed_files}
 use Rattle.lr_cmd_receive.specs.Shelving.{AreAcknowledged, Stops, shelved_lines, files_onto}
 use Rattle.lr_reading.specs.Arrivals.{HasWholeFrame}
-use Rattle.lr_cmd_receive.specs.Shelved.{ShelvesSoFar, HasShelved, StopsShelving, Gains, GainsNoMore}
-use Rattle.lr_cmd_receive.specs.Shelved.{shelf_in, one_more}
+use Rattle.lr_cmd_receive.specs.Onto.{ChangesFor, ChangesImagesFor}
+use Rattle.lr_shelf.specs.Adding.{StaysOutside}
+use Rattle.lr_cmd_receive.specs.Shelved.{AddsFiles, Grows, GrowsNoMore, ShelvesSoFar, HasShelved, StopsShelving}
+use Rattle.lr_cmd_receive.specs.Shelved.{Gains, GainsNoMore, shelf_in, one_more}
 use Rattle.lr_cmd_receive.proofs.Acknowledging.{acknowledged_first, acknowledged_more}
 use Rattle.lr_cmd_receive.proofs.Causing.{first_later}
 use Rattle.lr_cmd_receive.proofs.Changing.{change_after, change_among, images_after, images_among, stays_after}
+use Rattle.lr_cmd_receive.proofs.Noted.{mended_are, noted_at, noted_more, placed-append, plain-append, plain_noted}
 use Rattle.lr_cmd_receive.proofs.ShelvedLines.{shelved_lines-append, shelved_lines-none}
 use Rattle.lr_cmd_receive.proofs.WholeFrames.{with_outcome}
 use Rattle.lr_cmd_receive.proofs.Growing.{grows_none, grows_on, stops_after, stops_before}
@@ -29,6 +37,19 @@ use Rattle.lr_cmd_receive.proofs.ShelvingOne.{no_line}
 use Rattle.lr_causes.specs.Outside.{Outlets, OutletsOf}
 
 module _ {D O : Type 0} (world : OutletsOf D O) where
+  -- of two lists of files after one another
+  changes_so : (xs ys : List NotedFile) (way : Way) (old new : List ℕ)
+      → ChangesFor way (placed_files xs ++ placed_files ys) old new
+      → ChangesFor way (placed_files (xs ++ ys)) old new
+  changes_so xs ys way old new =
+      subst (λ (l : List Placed). ChangesFor way l old new) (sym (placed-append xs ys))
+
+  images_so : (xs ys : List NotedFile) (way : Way) (d d' : D)
+      → (d' ≡ d) ⊎ ChangesImagesFor world.disk way (placed_files xs ++ placed_files ys) d d'
+      → (d' ≡ d) ⊎ ChangesImagesFor world.disk way (placed_files (xs ++ ys)) d d'
+  images_so xs ys way d d' = subst
+      (λ (l : List Placed). (d' ≡ d) ⊎ ChangesImagesFor world.disk way l d d') (sym (placed-append xs ys))
+
   -- no file
   pub shelved_none : (shelf : Shelf) (w : Outlets D O) → HasShelved world [] (shelf_in shelf w) (shelf_in shelf w)
   shelved_none shelf w = record {
@@ -40,7 +61,7 @@ module _ {D O : Type 0} (world : OutletsOf D O) where
     disk_count = refl;
     out_count = refl;
     shelved = λ initial done before so_far.
-        subst (λ (l : List Placed). ShelvesSoFar world initial l before (shelf_in shelf w)) (sym (append-nil done))
+        subst (λ (l : List NotedFile). ShelvesSoFar world initial l before (shelf_in shelf w)) (sym (append-nil done))
         so_far;
     grown = grows_none shelf w;
     count = omega arith;
@@ -51,10 +72,10 @@ module _ {D O : Type 0} (world : OutletsOf D O) where
     moments = λ t only. (only, inl refl);
   }
 
-  module _ {xs : List Placed} {shelf shelf1 : Shelf} {w w1 : Outlets D O}
+  module _ {xs : List NotedFile} {shelf shelf1 : Shelf} {w w1 : Outlets D O}
       (first : HasShelved world xs (shelf_in shelf w) (shelf_in shelf1 w1)) where
     -- files after files
-    pub shelved_on : {ys : List Placed} {shelf2 : Shelf} {w2 : Outlets D O}
+    pub shelved_on : {ys : List NotedFile} {shelf2 : Shelf} {w2 : Outlets D O}
         → HasShelved world ys (shelf_in shelf1 w1) (shelf_in shelf2 w2)
         → HasShelved world (xs ++ ys) (shelf_in shelf w) (shelf_in shelf2 w2)
     shelved_on {ys} {shelf2} {w2} next = record {
@@ -66,10 +87,11 @@ module _ {D O : Type 0} (world : OutletsOf D O) where
       disk_count = next.disk_count ∙ first.disk_count;
       out_count = next.out_count ∙ first.out_count;
       shelved = λ initial done before so_far.
-          subst (λ (l : List Placed). ShelvesSoFar world initial l before (shelf_in shelf2 w2))
+          subst (λ (l : List NotedFile). ShelvesSoFar world initial l before (shelf_in shelf2 w2))
           (append_assoc done xs ys)
           (next.shelved initial (done ++ xs) before (first.shelved initial done before so_far));
-      grown = grows_on first.grown next.grown;
+      grown = subst (λ (l : List Placed). Grows l (shelf_in shelf w) (shelf_in shelf2 w2)) (sym (placed-append xs ys))
+          (grows_on first.grown next.grown);
       count = omega (arith, next.count, first.count, length-append xs ys);
       put = λ t.
           let number = length (kept_by shelf).way.entries in
@@ -81,20 +103,24 @@ module _ {D O : Type 0} (world : OutletsOf D O) where
           (ap (λ (n : ℕ). shelved_lines number xs ++ shelved_lines n ys) first.count
           ∙ sym (shelved_lines-append number xs ys));
       outside = λ t.
-          stays_after (kept_by shelf).way (kept_by shelf1).way xs (world.disk.contents w.disk)
-          (world.disk.contents w1.disk) (world.disk.contents w2.disk) first.grown.ends (first.outside t) ys
-          (next.outside (first.told_by_disk t));
+          subst (λ (l : List Placed). StaysOutside ((kept_by shelf).way.end - 1) (end_with (kept_by shelf).way.end l)
+          (world.disk.contents w.disk) (world.disk.contents w2.disk)) (sym (placed-append xs ys))
+          (stays_after (kept_by shelf).way (kept_by shelf1).way (placed_files xs) (world.disk.contents w.disk)
+          (world.disk.contents w1.disk) (world.disk.contents w2.disk) first.grown.ends (first.outside t)
+          (placed_files ys) (next.outside (first.told_by_disk t)));
       moments = λ t only.
           let one = first.moments t only in
           let two = next.moments (first.told_by_disk t) one.0 in (
             two.0,
-            images_after world.disk (kept_by shelf).way (kept_by shelf1).way xs ys w.disk w1.disk w2.disk
-                first.grown.ends first.grown.same first.grown.room (first.outside t) one.1 two.1,
+            images_so xs ys (kept_by shelf).way w.disk w2.disk
+                (images_after world.disk (kept_by shelf).way (kept_by shelf1).way (placed_files xs) (placed_files ys)
+                w.disk w1.disk w2.disk first.grown.ends first.grown.same first.grown.room (first.outside t) one.1
+                two.1),
           );
     }
 
     -- shelving stopped after files
-    pub stopped_after : {cause : Cause} {ys : List Placed} {w2 : Outlets D O}
+    pub stopped_after : {cause : Cause} {ys : List NotedFile} {w2 : Outlets D O}
         → StopsShelving world cause ys (shelf_in shelf1 w1) w2
         → StopsShelving world cause (xs ++ ys) (shelf_in shelf w) w2
     stopped_after {cause} {ys} {w2} stopped = record {
@@ -107,27 +133,30 @@ module _ {D O : Type 0} (world : OutletsOf D O) where
           (world.disk.faults w2.disk) (world.out.faults w.out) (world.out.faults w1.out)
           (world.out.faults w2.out) first.disk_count first.out_count (stopped.first (first.working works));
       stops = λ initial done before so_far.
-          subst (λ (l : List Placed). Stops world (files_onto initial l) cause before w2) (append_assoc done xs ys)
+          subst (λ (l : List NotedFile). Stops world (files_onto initial l) cause before w2) (append_assoc done xs ys)
           (stopped.stops initial (done ++ xs) before (first.shelved initial done before so_far));
       keeps = λ initial done before so_far.
-          subst (λ (l : List Placed). AreAcknowledged world (files_onto initial l) done before w2)
+          subst (λ (l : List NotedFile). AreAcknowledged world (files_onto initial l) done before w2)
           (append_assoc done xs ys)
           (acknowledged_first world initial done xs
           (stopped.keeps initial (done ++ xs) before (first.shelved initial done before so_far)));
-      grown = stops_after first.grown stopped.grown;
+      grown = subst (λ (l : List Placed). GrowsNoMore cause l (shelf_in shelf w) w2) (sym (placed-append xs ys))
+          (stops_after first.grown stopped.grown);
       outside = λ t.
-          change_after (kept_by shelf).way (kept_by shelf1).way xs (world.disk.contents w.disk)
-          (world.disk.contents w1.disk) (world.disk.contents w2.disk) first.grown.ends (first.outside t) ys
-          first.grown.same first.grown.room (stopped.outside (first.told_by_disk t));
+          changes_so xs ys (kept_by shelf).way (world.disk.contents w.disk) (world.disk.contents w2.disk)
+          (change_after (kept_by shelf).way (kept_by shelf1).way (placed_files xs) (world.disk.contents w.disk)
+          (world.disk.contents w1.disk) (world.disk.contents w2.disk) first.grown.ends (first.outside t)
+          (placed_files ys) first.grown.same first.grown.room (stopped.outside (first.told_by_disk t)));
       moments = λ t only.
           let one = first.moments t only in
-          images_after world.disk (kept_by shelf).way (kept_by shelf1).way xs ys w.disk w1.disk w2.disk
-          first.grown.ends first.grown.same first.grown.room (first.outside t) one.1
-          (stopped.moments (first.told_by_disk t) one.0);
+          images_so xs ys (kept_by shelf).way w.disk w2.disk
+          (images_after world.disk (kept_by shelf).way (kept_by shelf1).way (placed_files xs) (placed_files ys) w.disk
+          w1.disk w2.disk first.grown.ends first.grown.same first.grown.room (first.outside t) one.1
+          (stopped.moments (first.told_by_disk t) one.0));
     }
 
   -- it stopped before more of them
-  pub stopped_before : {cause : Cause} {xs : List Placed} (ys : List Placed) {shelf : Shelf} {w w' : Outlets D O}
+  pub stopped_before : {cause : Cause} {xs : List NotedFile} (ys : List NotedFile) {shelf : Shelf} {w w' : Outlets D O}
       → StopsShelving world cause xs (shelf_in shelf w) w' → StopsShelving world cause (xs ++ ys) (shelf_in shelf w) w'
   stopped_before {cause} {xs} ys {shelf} {w} {w'} stopped = record {
     kind = stopped.kind;
@@ -137,74 +166,123 @@ module _ {D O : Type 0} (world : OutletsOf D O) where
     untold_by_out = stopped.untold_by_out;
     first = stopped.first;
     stops = λ initial done before so_far.
-        subst (λ (l : List Placed). Stops world (files_onto initial l) cause before w') (append_assoc done xs ys)
+        subst (λ (l : List NotedFile). Stops world (files_onto initial l) cause before w') (append_assoc done xs ys)
         (stops_more world initial before w' (done ++ xs) ys cause (stopped.stops initial done before so_far));
     keeps = λ initial done before so_far.
-        subst (λ (l : List Placed). AreAcknowledged world (files_onto initial l) done before w')
+        subst (λ (l : List NotedFile). AreAcknowledged world (files_onto initial l) done before w')
         (append_assoc done xs ys)
         (acknowledged_more world initial ys (stopped.keeps initial done before so_far));
-    grown = stops_before ys stopped.grown;
+    grown = subst (λ (l : List Placed). GrowsNoMore cause l (shelf_in shelf w) w') (sym (placed-append xs ys))
+        (stops_before (placed_files ys) stopped.grown);
     outside = λ t.
-        change_among (kept_by shelf).way xs ys (world.disk.contents w.disk) (world.disk.contents w'.disk)
-        (stopped.outside t);
+        changes_so xs ys (kept_by shelf).way (world.disk.contents w.disk) (world.disk.contents w'.disk)
+        (change_among (kept_by shelf).way (placed_files xs) (placed_files ys) (world.disk.contents w.disk)
+        (world.disk.contents w'.disk) (stopped.outside t));
     moments = λ t only.
-        images_among world.disk (kept_by shelf).way xs ys w.disk w'.disk (stopped.moments t only);
+        images_so xs ys (kept_by shelf).way w.disk w'.disk
+        (images_among world.disk (kept_by shelf).way (placed_files xs) (placed_files ys) w.disk w'.disk
+        (stopped.moments t only));
   }
 
   -- ---- the files of a list, one after another
-  module _ (xs : List Placed) (i : ℕ) {shelf shelf1 : Shelf} {w w1 : Outlets D O}
+  module _ (xs : List NotedFile) (i : ℕ) {shelf shelf1 : Shelf} {w w1 : Outlets D O}
       (first : HasShelved world (take i xs) (shelf_in shelf w) (shelf_in shelf1 w1)) where
     pub all_shelved : length xs ≤ i → HasShelved world xs (shelf_in shelf w) (shelf_in shelf1 w1)
     all_shelved past =
         let all : take i xs ≡ xs =
-        sym (append-nil (take i xs)) ∙ ap (λ (l : List Placed). take i xs ++ l) (sym (drop_all i xs past))
+        sym (append-nil (take i xs)) ∙ ap (λ (l : List NotedFile). take i xs ++ l) (sym (drop_all i xs past))
         ∙ take-append-drop i xs in
-        subst (λ (l : List Placed). HasShelved world l (shelf_in shelf w) (shelf_in shelf1 w1)) all first
+        subst (λ (l : List NotedFile). HasShelved world l (shelf_in shelf w) (shelf_in shelf1 w1)) all first
 
-    module _ (x : Placed) (inside : i < length xs) (is : x ≡ get_or xs i x) where
+    module _ (x : NotedFile) (inside : i < length xs) (is : x ≡ get_or xs i x) where
       taken : take (i + 1) xs ≡ take i xs ++ x ∷ []
-      taken = take_more xs i x inside ∙ ap (λ (y : Placed). take i xs ++ y ∷ []) (sym is)
+      taken = take_more xs i x inside ∙ ap (λ (y : NotedFile). take i xs ++ y ∷ []) (sym is)
 
       pub one_file_more : {shelf2 : Shelf} {w2 : Outlets D O}
           → HasShelved world (x ∷ []) (shelf_in shelf1 w1) (shelf_in shelf2 w2)
           → HasShelved world (take (i + 1) xs) (shelf_in shelf w) (shelf_in shelf2 w2)
       one_file_more {shelf2} {w2} next =
-          subst (λ (l : List Placed). HasShelved world l (shelf_in shelf w) (shelf_in shelf2 w2)) (sym taken)
+          subst (λ (l : List NotedFile). HasShelved world l (shelf_in shelf w) (shelf_in shelf2 w2)) (sym taken)
           (shelved_on first next)
 
       pub one_stopped : {cause : Cause} {w2 : Outlets D O} → StopsShelving world cause (x ∷ []) (shelf_in shelf1 w1) w2
           → StopsShelving world cause xs (shelf_in shelf w) w2
       one_stopped {cause} {w2} stopped =
           let all : (take i xs ++ x ∷ []) ++ drop (i + 1) xs ≡ xs =
-          ap (λ (l : List Placed). l ++ drop (i + 1) xs) (sym taken) ∙ take-append-drop (i + 1) xs in
-          subst (λ (l : List Placed). StopsShelving world cause l (shelf_in shelf w) w2) all
+          ap (λ (l : List NotedFile). l ++ drop (i + 1) xs) (sym taken) ∙ take-append-drop (i + 1) xs in
+          subst (λ (l : List NotedFile). StopsShelving world cause l (shelf_in shelf w) w2) all
           (stopped_before (drop (i + 1) xs) (stopped_after first stopped))
 
   -- ---- the files of one outcome
-  module _ (outcomes : List Outcome) (outcome : Outcome) (old new : List Placed) (none : old ≡ [])
-      (adds : AddsFiles outcomes outcome old new) (shelf : Shelf) (w w' : Outlets D O) where
-    these : placed_of_outcomes (outcomes ++ outcome ∷ []) ≡ placed_of_outcomes outcomes ++ new
-    these =
-        adds.files
-        ∙ ap (λ (l : List Placed). placed_of_outcomes outcomes ++ l)
-        (sym (adds.added ∙ ap (λ (l : List Placed). l ++ adds.more) none))
-
+  module _ (mend : ℕ) (outcomes : List Outcome) (outcome : Outcome) (new : List NotedFile)
+      (adds : AddsFiles (one_more mend outcomes outcome) new) (shelf : Shelf) (w w' : Outlets D O) where
     pub gained : {E : Type 0} (shelf' : Shelf) (result : Result (Unit {0}) E)
         → OnOk result (HasShelved world new (shelf_in shelf w) (shelf_in shelf' w'))
-        → OnOk result (Gains world (one_more outcomes outcome) (shelf_in shelf w) (shelf_in shelf' w'))
-    gained shelf' (Ok done) shelved = record { more = new; files = these; shelved = shelved }
+        → OnOk result (Gains world (one_more mend outcomes outcome) (shelf_in shelf w) (shelf_in shelf' w'))
+    gained shelf' (Ok done) shelved = record { more = new; files = adds; shelved = shelved }
     gained shelf' (Err e) shelved = tt
 
     pub gained_some : (result : Result (Unit {0}) Cause)
         → IfErr result (λ cause. StopsShelving world cause new (shelf_in shelf w) w')
-        → IfErr result (λ cause. GainsNoMore world cause (one_more outcomes outcome) (shelf_in shelf w) w')
+        → IfErr result (λ cause. GainsNoMore world cause (one_more mend outcomes outcome) (shelf_in shelf w) w')
     gained_some (Ok done) stopped = tt
-    gained_some (Err e) stopped = record { more = new; files = these; stopped = stopped }
+    gained_some (Err e) stopped = record { more = new; files = adds; stopped = stopped }
 
   -- the layers had no memory for it
-  pub gained_none : (outcomes : List Outcome) (outcome : Outcome) (kept : KeptLayers) → LayersStandFor kept outcomes
-      → HasWholeFrame outcome → (shelf : Shelf) (w : Outlets D O)
-      → GainsNoMore world NoMemory (one_more outcomes outcome) (shelf_in shelf w) w
-  gained_none outcomes outcome kept stands whole shelf w =
-      let law = go_on 0 outcomes (outcome ∷ []) (with_outcome outcomes outcome stands.channels.frames whole) in
-      record { more = law.more_files; files = law.files; stopped = no_line world law.more_files shelf w }
+  pub gained_none : (mend : ℕ) (outcomes : List Outcome) (outcome : Outcome) (kept : KeptLayers)
+      → MendingLayersStandFor mend kept outcomes → HasWholeFrame outcome → (shelf : Shelf) (w : Outlets D O)
+      → GainsNoMore world NoMemory (one_more mend outcomes outcome) (shelf_in shelf w) w
+  gained_none mend outcomes outcome kept stands whole shelf w =
+      let law = go_on mend outcomes (outcome ∷ []) (with_outcome outcomes outcome stands.channels.frames whole) in
+      let more = map (noted_where mend) law.more_marked in
+      record {
+        more = more;
+        files = noted_more mend outcomes (outcome ∷ []) law.more_marked law.marked;
+        stopped =
+            no_line world more shelf w;
+      }
+
+-- ---- the files that the layers give for one outcome more
+
+module _ {E : Type 0} (mend : ℕ) (outcomes : List Outcome) (outcome : Outcome) where
+  -- with their fillers
+  pub marked_add : (old new : Found) → old.files ≡ [] → old.fillers ≡ [] → (mend == 0) ≡ false
+      → (result : Result (Unit {0}) E) → OnOk result (AddsMarked mend outcomes outcome old new)
+      → OnOk result (AddsFiles (one_more mend outcomes outcome) (noted_with new.files new.fillers))
+  marked_add old new no_files no_fillers mends (Ok done) adds =
+      let files : new.files ≡ map placed_in adds.more =
+      adds.files ∙ ap (λ (l : List Placed). l ++ map placed_in adds.more) no_files in
+      let fillers : new.fillers ≡ map fillers_in adds.more =
+      adds.fillers ∙ ap (λ (l : List ℕ). l ++ map fillers_in adds.more) no_fillers in
+      noted_more mend outcomes (outcome ∷ []) adds.more adds.all
+      ∙ ap (λ (l : List NotedFile). noted_of_outcomes mend outcomes ++ l)
+      (mended_are mend adds.more mends ∙ ap (λ (l : List Placed). noted_with l (map fillers_in adds.more)) (sym files)
+      ∙ ap (noted_with new.files) (sym fillers))
+  marked_add old new no_files no_fillers mends (Err e) adds = tt
+
+  -- without them
+  pub plain_add : (old new : List Placed) (fillers : List ℕ) → old ≡ [] → fillers ≡ [] → mend ≡ 0
+      → (result : Result (Unit {0}) E) → OnOk result (AddsMended mend outcomes outcome old new)
+      → OnOk result (AddsFiles (one_more mend outcomes outcome) (noted_with new fillers))
+  plain_add old new fillers no_files no_fillers none (Ok done) adds =
+      subst (λ (n : ℕ). AddsFiles (one_more n outcomes outcome) (noted_with new fillers)) (sym none)
+      (plain (subst (λ (n : ℕ). AddsMended n outcomes outcome old new) none adds))
+    where
+      plain : AddsMended 0 outcomes outcome old new → AddsFiles (one_more 0 outcomes outcome) (noted_with new fillers)
+      plain adds =
+          let files : new ≡ adds.more = adds.added ∙ ap (λ (l : List Placed). l ++ adds.more) no_files in
+          plain_noted (outcomes ++ outcome ∷ []) ∙ ap (λ (l : List Placed). noted_with l []) adds.files
+          ∙ plain-append (mended_of_outcomes 0 outcomes) adds.more
+          ∙ ap (λ (l : List NotedFile). l ++ noted_with adds.more []) (sym (plain_noted outcomes))
+          ∙ ap (λ (l : List NotedFile). noted_of_outcomes 0 outcomes ++ l)
+          (ap (λ (l : List Placed). noted_with l []) (sym files) ∙ ap (noted_with new) (sym no_fillers))
+  plain_add old new fillers no_files no_fillers none (Err e) adds = tt
+
+-- ---- files and numbers of fillers side by side
+
+-- the next one of them
+pub noted_next : (files : List Placed) (fillers : List ℕ) (i : ℕ) (placed : Placed) → i < length files
+    → placed ≡ get_or files i placed → noted_file placed (slice_get fillers i)
+    ≡ get_or (noted_with files fillers) i (noted_file placed (slice_get fillers i))
+noted_next files fillers i placed inside is =
+    noted_at files fillers i placed (noted_file placed (slice_get fillers i)) inside is

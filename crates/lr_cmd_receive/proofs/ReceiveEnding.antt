@@ -5,7 +5,7 @@ use Rattle.lr_bits.specs.Faults.{Rose}
 use Rattle.lr_bits.specs.declared.placed.Placed.{Placed}
 use Rattle.lr_io.specs.declared.source.Source.{Ghosts as SourceOf}
 use Rattle.lr_io.specs.declared.sink.Sink.{Ghosts as SinkOf}
-use Rattle.lr_layers.specs.Layers.{CountsView, numbers_of}
+use Rattle.lr_layers.specs.Layers.{CountsView, mended_numbers_of}
 use Rattle.lr_layers.specs.Standing.{numbers}
 use Rattle.lr_shelf.specs.Kept.{kept_by}
 use Rattle.lr_shelf.specs.declared.shelf.Shelf.{Shelf}
@@ -26,12 +26,13 @@ use Rattle.lr_forms.specs.declared.forms.Input.{Input}
 use Rattle.lr_causes.specs.Causes.{IsEarlier, cause_at}
 use Rattle.lr_reading.specs.Inputs.{outcomes_of_bytes}
 use Rattle.lr_cmd_receive.specs.Inputs.{files_of_bytes}
+use Rattle.lr_cmd_receive.specs.Noted.{placed_files}
 use Rattle.lr_causes.specs.Puts.{PutFails}
 use Rattle.lr_shelf.specs.InitialShelves.{InitialShelf, HoldsStill, IsSettledOn, StandsWith, next_number}
 use Rattle.lr_cmd_receive.specs.Shelving.{shelved_lines, StopsBy, files_onto}
 use Rattle.lr_cmd_receive.specs.Shelved.{MayStop, ShelvesSoFar, Grows, GrowsNoMore, shelf_in}
 use Rattle.lr_cmd_receive.specs.Receive.{counts_line, receive_count, receive_last, AreInTime}
-use Rattle.lr_cmd_receive.specs.Receive.{IsWorkDone, Finishes, Ends, run_onto}
+use Rattle.lr_cmd_receive.specs.Receive.{IsWorkDone, Finishes, Ends, intake, run_onto}
 use Rattle.lr_cmd_receive.specs.Reception.{FewWait, sums_line, PutsLast, LastStops, ReadsAll}
 use Rattle.lr_cmd_receive.specs.Reception.{ReadsSome, EndsOver, EndsRun, taken_bytes, reception}
 use Rattle.lr_cmd_receive.proofs.Acknowledging.{all_acknowledged, all_worked, lines_alone}
@@ -44,13 +45,13 @@ use Rattle.lr_causes.specs.Outside.{outlets, outside, outlets_in, world_outlets,
 use Rattle.lr_shelf.proofs.InitialPrefixes.{front_none}
 
 -- the last line tells what was read and counted
-pub last_line_is : {S : Type 0} (source : SourceOf S) (input : Input) (limit : ℕ) (bytes : List ℕ)
+pub last_line_is : {S : Type 0} (source : SourceOf S) (mend : ℕ) (input : Input) (limit : ℕ) (bytes : List ℕ)
     (s s' : S) (sums : ReceiveCounts)
     → ReadsInput source (input_read input limit bytes) sums.totals s s'
-    → numbers sums.counts ≡ numbers_of (outcomes_of_bytes input bytes)
-    → sums_line sums ≡ receive_last input bytes sums.totals.stop
+    → numbers sums.counts ≡ mended_numbers_of mend (outcomes_of_bytes input bytes)
+    → sums_line sums ≡ receive_last mend input bytes sums.totals.stop
 unfolding receive_last receive_count
-last_line_is source input limit bytes s s' sums ends counted =
+last_line_is source mend input limit bytes s s' sums ends counted =
     let totals = sums.totals in
     ap (λ k. counts_line k totals.frames (numbers sums.counts) totals.left totals.stop) ends.symbols
     ∙ ap (λ k. counts_line (length bytes) k (numbers sums.counts) totals.left totals.stop)
@@ -58,7 +59,7 @@ last_line_is source input limit bytes s s' sums ends counted =
     ∙ ap (λ (n : CountsView). counts_line (length bytes) (length (outcomes_of_bytes input bytes)) n totals.left
     totals.stop) counted
     ∙ ap (λ k. counts_line (length bytes) (length (outcomes_of_bytes input bytes))
-    (numbers_of (outcomes_of_bytes input bytes)) k totals.stop) ends.left
+    (mended_numbers_of mend (outcomes_of_bytes input bytes)) k totals.stop) ends.left
 
 -- nothing was put
 pub got_none : {O : Type 0} (out : SinkOf O) (initial : InitialShelf) (o : O) → out.tells o
@@ -134,20 +135,20 @@ module _ {D O : Type 0} {shelf : Shelf} {files : List Placed} {w w1 : Outlets D 
         not_disk : Failed Source ≡ Failed Disk → ⊥
         not_disk is = let same : Source ≡ Disk = cc (is) in cc (same)
 
-module _ {S D O : Type 0} (world : World S D O) (input : Input) (limit : ℕ) where
+module _ {S D O : Type 0} (world : World S D O) (mend : ℕ) (input : Input) (limit : ℕ) where
   module _ (initial : InitialShelf) (bytes : List ℕ) (w w' : Outside S D O) where
     ends_of : (cause : Cause)
-        → StopsBy (world_outlets world) (files_onto initial (files_of_bytes input bytes)) cause (outlets_in w)
+        → StopsBy (world_outlets world) (files_onto initial (files_of_bytes mend input bytes)) cause (outlets_in w)
         (outlets_in w')
-        → Ends world (run_onto initial (input_read input limit bytes)) cause w w'
+        → Ends world (run_onto initial (intake mend (input_read input limit bytes))) cause w w'
     ends_of (Failed Disk) stops = stops
     ends_of (Failed Output) stops = inl stops
     ends_of NoMemory stops = stops
     ends_of (Refused (Capacity needed most)) stops = stops
     ends_of _ stops = absurd stops
 
-    ends_at : (stop : Stop) → Finishes world (run_onto initial (input_read input limit bytes)) stop w w'
-        → Ends world (run_onto initial (input_read input limit bytes)) (cause_at stop) w w'
+    ends_at : (stop : Stop) → Finishes world (run_onto initial (intake mend (input_read input limit bytes))) stop w w'
+        → Ends world (run_onto initial (intake mend (input_read input limit bytes))) (cause_at stop) w w'
     ends_at End done = inl done
     ends_at Limit done = inr done
     ends_at Fault done = done
@@ -155,8 +156,8 @@ module _ {S D O : Type 0} (world : World S D O) (input : Input) (limit : ℕ) wh
   module _ (shelf : Shelf) (w w1 : Outside S D O) where
     -- shelving stopped
     pub ended_some : (leeway : Leeway) (cause : Cause)
-        → ReadsSome world (reception input limit leeway) cause (shelf_in shelf w) w1
-        → EndsRun world (reception input limit leeway) cause (shelf_in shelf w) w1
+        → ReadsSome world (reception mend input limit leeway) cause (shelf_in shelf w) w1
+        → EndsRun world (reception mend input limit leeway) cause (shelf_in shelf w) w1
     ended_some waiting cause some =
         let stopped = some.stopped in
         record {
@@ -185,39 +186,42 @@ module _ {S D O : Type 0} (world : World S D O) (input : Input) (limit : ℕ) wh
         }
 
     module _ (leeway : Leeway) (sums : ReceiveCounts) (shelf1 : Shelf)
-        (all : ReadsAll world (reception input limit leeway) sums (shelf_in shelf w) (shelf_in shelf1 w1)) (o2 : O)
+        (all : ReadsAll world (reception mend input limit leeway) sums (shelf_in shelf w) (shelf_in shelf1 w1)) (o2 : O)
       where
         -- nothing waits, neither now nor when the source was last asked
         none_waits : (initial : InitialShelf) (before : Outlets D O)
-            → HoldsStill initial (files_of_bytes input all.bytes) world.disk w1.disk
+            → HoldsStill initial (placed_files (files_of_bytes mend input all.bytes)) world.disk w1.disk
             → (world.out.tells before.out → (text : List ℕ) × (world.out.contents o2
             ≡ world.out.contents before.out
-            ++ (shelved_lines (next_number initial) (files_of_bytes input all.bytes) ++ text)))
-            → FewWait (world_outlets world) initial (taken_bytes input leeway all.bytes) before (outlets w1.disk o2)
+            ++ (shelved_lines (next_number initial) (files_of_bytes mend input all.bytes) ++ text)))
+            → FewWait (world_outlets world) initial (taken_bytes mend input leeway all.bytes) before
+            (outlets w1.disk o2)
             × WhenLastAsked world.source (AreInTime (world_outlets world)
-            (files_onto initial (files_of_bytes input all.bytes)) input leeway before
+            (files_onto initial (files_of_bytes mend input all.bytes)) mend input leeway before
             (outlets w1.disk o2)) all.bytes w.source w1.source
         none_waits initial before durable told = (
-          all_worked (world_outlets world) initial input leeway all.bytes before (outlets w1.disk o2) durable told,
-          all_in_time world.source input leeway all.bytes w.source w1.source (world_outlets world) initial
+          all_worked (world_outlets world) initial mend input leeway all.bytes before (outlets w1.disk o2) durable told,
+          all_in_time world.source mend input leeway all.bytes w.source w1.source (world_outlets world) initial
               before (outlets w1.disk o2) (all_acknowledged (world_outlets world) initial
-              (files_of_bytes input all.bytes) before (outlets w1.disk o2) durable told) all.in_time,
+              (files_of_bytes mend input all.bytes) before (outlets w1.disk o2) durable told) all.in_time,
         )
 
-        line_is : sums_line sums ≡ receive_last input all.bytes sums.totals.stop
-        line_is = last_line_is world.source input limit all.bytes w.source w1.source sums all.ends all.counts
+        line_is : sums_line sums ≡ receive_last mend input all.bytes sums.totals.stop
+        line_is = last_line_is world.source mend input limit all.bytes w.source w1.source sums all.ends all.counts
 
         -- the files were written, and nothing else
         changes : world.disk.tells w.disk
-            → ChangesFor (kept_by shelf).way (files_of_bytes input all.bytes) (world.disk.contents w.disk)
+            → ChangesFor (kept_by shelf).way (placed_files (files_of_bytes mend input all.bytes))
+            (world.disk.contents w.disk)
             (world.disk.contents w1.disk)
         changes t =
-            change_for (kept_by shelf).way (files_of_bytes input all.bytes) (world.disk.contents w.disk)
+            change_for (kept_by shelf).way (placed_files (files_of_bytes mend input all.bytes))
+            (world.disk.contents w.disk)
             (world.disk.contents w1.disk) all.shelved.grown.room (all.shelved.outside t)
 
         -- a part of the last line was put
         summary_cut : PutFails world.out (sums_line sums) w1.out o2
-            → EndsRun world (reception input limit leeway) (Failed Output) (shelf_in shelf w)
+            → EndsRun world (reception mend input limit leeway) (Failed Output) (shelf_in shelf w)
             (outside w1.source w1.disk o2)
         summary_cut fails = record {
           bytes = all.bytes;
@@ -239,7 +243,7 @@ module _ {S D O : Type 0} (world : World S D O) (input : Input) (limit : ℕ) wh
                 cut.part,
                 cut.put ∙ ap (λ (l : List ℕ). l ++ cut.part) (so_far.put.put t)
                     ∙ append_assoc (world.out.contents before.out)
-                    (shelved_lines (next_number initial) (files_of_bytes input all.bytes)) cut.part,
+                    (shelved_lines (next_number initial) (files_of_bytes mend input all.bytes)) cut.part,
               )) in (
                 so_far.any_moment,
                 inr (record {
@@ -268,7 +272,7 @@ module _ {S D O : Type 0} (world : World S D O) (input : Input) (limit : ℕ) wh
         }
 
         -- there was no memory for it
-        no_summary : o2 ≡ w1.out → EndsRun world (reception input limit leeway) NoMemory (shelf_in shelf w)
+        no_summary : o2 ≡ w1.out → EndsRun world (reception mend input limit leeway) NoMemory (shelf_in shelf w)
             (outside w1.source w1.disk o2)
         no_summary same = record {
           bytes = all.bytes;
@@ -285,13 +289,13 @@ module _ {S D O : Type 0} (world : World S D O) (input : Input) (limit : ℕ) wh
           ends = λ initial before begun.
               let so_far = all.shelved.shelved initial [] before begun in
               let none = none_waits initial before so_far.settled.on_disk
-              (lines_alone (world_outlets world) initial (files_of_bytes input all.bytes) before
+              (lines_alone (world_outlets world) initial (files_of_bytes mend input all.bytes) before
               (outlets w1.disk o2) (λ t. ap world.out.contents same ∙ so_far.put.put t)) in (
                 so_far.any_moment,
                 record {
-                  done = files_of_bytes input all.bytes;
+                  done = files_of_bytes mend input all.bytes;
                   rest = [];
-                  split = sym (append-nil (files_of_bytes input all.bytes));
+                  split = sym (append-nil (files_of_bytes mend input all.bytes));
                   durable = so_far.settled.on_disk;
                   got = λ t. ap world.out.contents same ∙ so_far.put.put t;
                 },
@@ -306,14 +310,14 @@ module _ {S D O : Type 0} (world : World S D O) (input : Input) (limit : ℕ) wh
 
         -- the last line wasn't put
         pub last_stopped : (cause : Cause) → LastStops world.out sums cause w1.out o2
-            → EndsRun world (reception input limit leeway) cause (shelf_in shelf w) (outside w1.source w1.disk o2)
+            → EndsRun world (reception mend input limit leeway) cause (shelf_in shelf w) (outside w1.source w1.disk o2)
         last_stopped (Failed Output) stops = summary_cut stops
         last_stopped NoMemory stops = no_summary stops
         last_stopped _ stops = absurd stops
 
         -- it was put
         pub all_put : PutsLast world.out sums w1.out o2
-            → EndsRun world (reception input limit leeway) (cause_at sums.totals.stop) (shelf_in shelf w)
+            → EndsRun world (reception mend input limit leeway) (cause_at sums.totals.stop) (shelf_in shelf w)
             (outside w1.source w1.disk o2)
         all_put put = record {
           bytes = all.bytes;
@@ -330,7 +334,7 @@ module _ {S D O : Type 0} (world : World S D O) (input : Input) (limit : ℕ) wh
               all.shelved.disk_count (put.kept ∙ all.shelved.out_count);
           ends = λ initial before begun.
               let so_far = all.shelved.shelved initial [] before begun in
-              let files = files_of_bytes input all.bytes in
+              let files = files_of_bytes mend input all.bytes in
               let none = none_waits initial before so_far.settled.on_disk
               (λ t. (
                 sums_line sums,
@@ -360,7 +364,8 @@ module _ {S D O : Type 0} (world : World S D O) (input : Input) (limit : ℕ) wh
             record {
               reason = all.ends.reason;
               got = λ t.
-                  let lines = shelved_lines (length (kept_by shelf).way.entries) (files_of_bytes input all.bytes) in
+                  let lines = shelved_lines (length (kept_by shelf).way.entries)
+                  (files_of_bytes mend input all.bytes) in
                   put.put (all.shelved.told_by_out t) ∙ ap (λ (l : List ℕ). l ++ sums_line sums) (all.shelved.put t)
                   ∙ append_assoc (world.out.contents w.out) lines (sums_line sums)
                   ∙ ap (λ (l : List ℕ). world.out.contents w.out ++ (lines ++ l)) line_is;

@@ -15,7 +15,6 @@ use Rattle.lr_shelf.specs.declared.error.ShelfError.TheVariants.{Disk as Disk'}
 use Rattle.lr_shelf.specs.declared.error.ShelfError.TheVariants.{Capacity as Capacity'}
 use Rattle.lr_shelf.specs.declared.error.ShelfError.TheVariants.{NoMemory as NoMemory'}
 use Rattle.lr_shelf.specs.declared.error.ShelfError.TheVariants.{Failed as Failed'}
-use Rattle.lr_catalog.specs.Files.{shelved_line}
 use Rattle.lr_causes.specs.declared.cause.Cause.{Cause}
 use Rattle.lr_causes.specs.declared.cause.Cause.TheVariants.{Failed, NoMemory, Refused}
 use Rattle.lr_causes.specs.declared.cause.Party.TheVariants.{Disk, Output}
@@ -23,10 +22,12 @@ use Rattle.lr_causes.specs.declared.cause.Refusal.TheVariants.{Capacity}
 use Rattle.lr_refusals.specs.Errors.{cause_of}
 use Rattle.lr_causes.specs.Puts.{Puts, PutFails}
 use Rattle.lr_shelf.specs.InitialShelves.{InitialShelf, HoldsStill, IsSettledOn, next_number, LeavesPrefixes}
-use Rattle.lr_shelf.specs.InitialShelves.{StandsWithEither}
-use Rattle.lr_cmd_receive.specs.Shelving.{shelved_lines, StandsForOneFileMore, StopsBy, Stops, files_onto}
+use Rattle.lr_shelf.specs.InitialShelves.{StandsWith, StandsWithEither, end_with_files, told_end}
+use Rattle.lr_cmd_receive.specs.Noted.{NotedFile, placed_files}
+use Rattle.lr_cmd_receive.specs.Shelving.{noted_line, shelved_lines, StandsForOneFileMore, StopsBy, Stops, files_onto}
 use Rattle.lr_cmd_receive.specs.Shelved.{MayStop, ShelvesSoFar, shelf_in}
 use Rattle.lr_shelf.proofs.InitialShelves.{capacity_is, ends, needed_is, number_is}
+use Rattle.lr_cmd_receive.proofs.Noted.{length-placed, placed-append}
 use Rattle.lr_cmd_receive.proofs.ShelvedLines.{shelved_lines-push}
 use Rattle.lr_causes.specs.Outside.{outlets, Outlets, OutletsOf}
 use Rattle.lr_shelf.proofs.InitialPrefixes.{fronts_of_more, fronts_with}
@@ -34,17 +35,23 @@ use Rattle.lr_shelf.proofs.InitialPrefixes.{fronts_of_more, fronts_with}
 -- ---- one file more
 
 module _ (initial : InitialShelf) where
-  either_more : (done : List Placed) (placed : Placed) (bytes : List ℕ) → StandsWithEither initial done placed bytes
-      → StandsForOneFileMore initial done (placed ∷ []) bytes
-  either_more done placed bytes (inl s) = inl s
-  either_more done placed bytes (inr s) = inr (placed, [], refl, s)
+  either_more : (done : List NotedFile) (noted : NotedFile) (bytes : List ℕ)
+      → StandsWithEither initial (placed_files done) noted.placed bytes
+      → StandsForOneFileMore initial done (noted ∷ []) bytes
+  either_more done noted bytes (inl s) = inl s
+  either_more done noted bytes (inr s) = inr (
+    noted,
+    [],
+    refl,
+    subst (λ (l : List Placed). StandsWith initial l bytes) (sym (placed-append done (noted ∷ []))) s,
+  )
 
   -- more files that are still to be shelved
-  pub one_more_later : (done rest more : List Placed) (bytes : List ℕ) → StandsForOneFileMore initial done rest bytes
+  pub one_more_later : (done rest more : List NotedFile) (bytes : List ℕ) → StandsForOneFileMore initial done rest bytes
       → StandsForOneFileMore initial done (rest ++ more) bytes
   one_more_later done rest more bytes (inl s) = inl s
   one_more_later done rest more bytes (inr s) =
-      inr (s.0, s.1 ++ more, ap (λ (l : List Placed). l ++ more) s.2, s.3)
+      inr (s.0, s.1 ++ more, ap (λ (l : List NotedFile). l ++ more) s.2, s.3)
 
 -- ---- causes
 
@@ -60,9 +67,9 @@ append_kind item kept _ refusal = absurd refusal
 -- ---- more files
 
 module _ {D O : Type 0} (world : OutletsOf D O) (initial : InitialShelf) (w w' : Outlets D O)
-    (files more : List Placed) where
-  longer : (done rest : List Placed) → files ≡ done ++ rest → files ++ more ≡ done ++ (rest ++ more)
-  longer done rest split = ap (λ (l : List Placed). l ++ more) split ∙ append_assoc done rest more
+    (files more : List NotedFile) where
+  longer : (done rest : List NotedFile) → files ≡ done ++ rest → files ++ more ≡ done ++ (rest ++ more)
+  longer done rest split = ap (λ (l : List NotedFile). l ++ more) split ∙ append_assoc done rest more
 
   stops_by_more : (cause : Cause) → StopsBy world (files_onto initial files) cause w w'
       → StopsBy world (files_onto initial (files ++ more)) cause w w'
@@ -107,13 +114,15 @@ module _ {D O : Type 0} (world : OutletsOf D O) (initial : InitialShelf) (w w' :
       → Stops world (files_onto initial (files ++ more)) cause w w'
   stops_more cause stops = record {
     any_moment =
-        fronts_of_more world.disk initial w.disk w'.disk w'.disk files stops.any_moment more;
+        subst (λ (l : List Placed). LeavesPrefixes world.disk initial l w.disk w'.disk) (sym (placed-append files more))
+        (fronts_of_more world.disk initial w.disk w'.disk w'.disk (placed_files files) stops.any_moment
+        (placed_files more));
     why = stops_by_more cause stops.why;
   }
 
 -- ---- one file more, on an initial shelf
 
-module _ {D O : Type 0} (world : OutletsOf D O) (initial : InitialShelf) (done : List Placed) (shelf : Shelf)
+module _ {D O : Type 0} (world : OutletsOf D O) (initial : InitialShelf) (done : List NotedFile) (shelf : Shelf)
     (w w1 : Outlets D O) (so_far : ShelvesSoFar world initial done w (shelf_in shelf w1)) where
   abbrev disk : DiskOf D
   disk = world.disk
@@ -122,9 +131,11 @@ module _ {D O : Type 0} (world : OutletsOf D O) (initial : InitialShelf) (done :
   out = world.out
 
   -- no memory for what comes next
-  pub out_of_memory : (more : List Placed) → Stops world (files_onto initial (done ++ more)) NoMemory w w1
+  pub out_of_memory : (more : List NotedFile) → Stops world (files_onto initial (done ++ more)) NoMemory w w1
   out_of_memory more = record {
-    any_moment = fronts_of_more disk initial w.disk w1.disk w1.disk done so_far.any_moment more;
+    any_moment = subst (λ (l : List Placed). LeavesPrefixes disk initial l w.disk w1.disk) (sym
+        (placed-append done more))
+        (fronts_of_more disk initial w.disk w1.disk w1.disk (placed_files done) so_far.any_moment (placed_files more));
     why = record {
       done = done;
       rest = more;
@@ -134,26 +145,33 @@ module _ {D O : Type 0} (world : OutletsOf D O) (initial : InitialShelf) (done :
     };
   }
 
-  module _ (placed : Placed) (d2 : D) (run : EachImageSince disk w1.disk d2
-      (StandsWithEither initial done placed)) where
-    moments : LeavesPrefixes disk initial (done ++ placed ∷ []) w.disk d2
-    moments = fronts_with disk initial w.disk w1.disk d2 done so_far.any_moment placed run
+  module _ (noted : NotedFile) (d2 : D) (run : EachImageSince disk w1.disk d2
+      (StandsWithEither initial (placed_files done) noted.placed)) where
+    abbrev placed : Placed
+    placed = noted.placed
+
+    moved : placed_files done ++ placed ∷ [] ≡ placed_files (done ++ noted ∷ [])
+    moved = sym (placed-append done (noted ∷ []))
+
+    moments : LeavesPrefixes disk initial (placed_files (done ++ noted ∷ [])) w.disk d2
+    moments = subst (λ (l : List Placed). LeavesPrefixes disk initial l w.disk d2) moved
+        (fronts_with disk initial w.disk w1.disk d2 (placed_files done) so_far.any_moment placed run)
 
     -- the append answered an error
-    pub append_stopped : (e : ShelfError) → IsFile placed.file
-        → StandsWithEither initial done placed (disk.contents d2)
-        → ((c : List ℕ) → disk.may_leave d2 c → StandsWithEither initial done placed c)
+    pub append_stopped : (e : ShelfError) → IsFile noted.placed.file
+        → StandsWithEither initial (placed_files done) noted.placed (disk.contents d2)
+        → ((c : List ℕ) → disk.may_leave d2 c → StandsWithEither initial (placed_files done) noted.placed c)
         → ((e ≡ Disk' → ⊥) → d2 ≡ w1.disk)
-        → IsAppendRefusal (item_for placed) (kept_by shelf) e
-        → Stops world (files_onto initial (done ++ placed ∷ [])) (cause_of e) w (outlets d2 w1.out)
+        → IsAppendRefusal (item_for noted.placed) (kept_by shelf) e
+        → Stops world (files_onto initial (done ++ noted ∷ [])) (cause_of e) w (outlets d2 w1.out)
     append_stopped Disk' is now left stays refusal = record {
       any_moment = moments;
       why = record {
         done = done;
-        rest = placed ∷ [];
+        rest = noted ∷ [];
         split = refl;
-        contents = either_more initial done placed (disk.contents d2) now;
-        images = λ c image. either_more initial done placed c (left c image);
+        contents = either_more initial done noted (disk.contents d2) now;
+        images = λ c image. either_more initial done noted c (left c image);
         got = so_far.put.put;
       };
     }
@@ -163,18 +181,21 @@ module _ {D O : Type 0} (world : OutletsOf D O) (initial : InitialShelf) (done :
           any_moment = moments;
           why = record {
             done = done;
-            next = placed;
+            next = noted;
             rest = [];
             split = refl;
-            durable = subst (λ (x : D). HoldsStill initial done disk x) (sym same) so_far.settled.on_disk;
+            durable = subst (λ (x : D). HoldsStill initial (placed_files done) disk x)
+                (sym same) so_far.settled.on_disk;
             got = so_far.put.put;
-            needs = refusal.2 ∙ needed_is disk done shelf w1.disk placed is initial so_far.settled;
-            of = refusal.3 ∙ capacity_is disk done shelf w1.disk initial so_far.settled;
+            needs = refusal.2 ∙ needed_is disk (placed_files done) shelf w1.disk placed is initial so_far.settled
+                ∙ ap (λ (l : List Placed). told_end initial l) moved;
+            of = refusal.3 ∙ capacity_is disk (placed_files done) shelf w1.disk initial so_far.settled;
             over = omega (
               arith,
               refusal.1,
-              capacity_is disk done shelf w1.disk initial so_far.settled,
-              ends disk done shelf w1.disk placed initial so_far.settled,
+              capacity_is disk (placed_files done) shelf w1.disk initial so_far.settled,
+              ends disk (placed_files done) shelf w1.disk placed initial so_far.settled,
+              ap (λ (l : List Placed). end_with_files initial l) moved,
             );
           };
         }
@@ -184,9 +205,10 @@ module _ {D O : Type 0} (world : OutletsOf D O) (initial : InitialShelf) (done :
           any_moment = moments;
           why = record {
             done = done;
-            rest = placed ∷ [];
+            rest = noted ∷ [];
             split = refl;
-            durable = subst (λ (x : D). HoldsStill initial done disk x) (sym same) so_far.settled.on_disk;
+            durable = subst (λ (x : D). HoldsStill initial (placed_files done) disk x)
+                (sym same) so_far.settled.on_disk;
             got = so_far.put.put;
           };
         }
@@ -194,24 +216,25 @@ module _ {D O : Type 0} (world : OutletsOf D O) (initial : InitialShelf) (done :
         let no : false ≡ true = sym so_far.settled.kept.working ∙ refusal in absurd (cc no)
     append_stopped _ is now left stays refusal = absurd refusal
 
-    module _ (shelf2 : Shelf) (settled : IsSettledOn initial (done ++ placed ∷ []) disk shelf2 d2) (n : ℕ)
-        (text : List ℕ) (place : n ≡ length (kept_by shelf).way.entries) (is : text ≡ shelved_line n placed.file)
+    module _ (shelf2 : Shelf) (settled : IsSettledOn initial (placed_files (done ++ noted ∷ [])) disk shelf2 d2) (n : ℕ)
+        (text : List ℕ) (place : n ≡ length (kept_by shelf).way.entries) (is : text ≡ noted_line n noted)
         (o2 : O) where
-      line_is : text ≡ shelved_line (next_number initial + length done) placed.file
+      line_is : text ≡ noted_line (next_number initial + length done) noted
       line_is =
           is
-          ∙ ap (λ (k : ℕ). shelved_line k placed.file)
-          (place ∙ number_is disk done shelf w1.disk initial so_far.settled)
+          ∙ ap (λ (k : ℕ). noted_line k noted)
+          (place ∙ number_is disk (placed_files done) shelf w1.disk initial so_far.settled
+          ∙ ap (λ (k : ℕ). next_number initial + k) (length-placed done))
 
-      lines_are : shelved_lines (next_number initial) (done ++ placed ∷ [])
+      lines_are : shelved_lines (next_number initial) (done ++ noted ∷ [])
           ≡ shelved_lines (next_number initial) done ++ text
       lines_are =
-          shelved_lines-push (next_number initial) done placed
+          shelved_lines-push (next_number initial) done noted
           ∙ ap (λ (l : List ℕ). shelved_lines (next_number initial) done ++ l) (sym line_is)
 
       -- the line was put
       pub line_put : disk.faults d2 ≡ disk.faults w1.disk → Puts out text w1.out o2
-          → ShelvesSoFar world initial (done ++ placed ∷ []) w (shelf_in shelf2 (outlets d2 o2))
+          → ShelvesSoFar world initial (done ++ noted ∷ []) w (shelf_in shelf2 (outlets d2 o2))
       line_put disk_count put = record {
         settled = settled;
         any_moment = moments;
@@ -230,14 +253,14 @@ module _ {D O : Type 0} (world : OutletsOf D O) (initial : InitialShelf) (done :
 
       -- a part of the line was put
       pub line_stopped : PutFails out text w1.out o2
-          → Stops world (files_onto initial (done ++ placed ∷ [])) (Failed Output) w (outlets d2 o2)
+          → Stops world (files_onto initial (done ++ noted ∷ [])) (Failed Output) w (outlets d2 o2)
       line_stopped fails = record {
         any_moment = moments;
         why = record {
           done = done;
-          last = placed;
+          last = noted;
           rest = [];
-          split = sym (append-nil (done ++ placed ∷ []));
+          split = sym (append-nil (done ++ noted ∷ []));
           durable = settled.on_disk;
           part = λ t.
               let cut = fails.part (so_far.put.told t) in

@@ -1,7 +1,7 @@
 -- What the shelving of one outcome comes to: its file is appended and told, or why not.
 use Rattle.std.proofs.Common.{◌≡◌, inl, inr, ◌+◌, ◌-◌, ◌≤◌, ◌<◌, ℕ, List, [], ◌∷◌, ◌++◌, length, min, refl, sym}
 use Rattle.std.proofs.Common.{◌∙◌, ap, subst, arith, append_assoc, append-nil, length-append}
-use Rattle.std.proofs.Common.{⊎_elim, Result, Ok, Err, OnOk}
+use Rattle.std.proofs.Common.{⊎_elim, Option, Result, Ok, Err, OnOk}
 use Rattle.std.proofs.lemmas.Bool.{cases_lt}
 use Rattle.lr_bits.specs.File.{IsFile}
 use Rattle.lr_bits.specs.declared.placed.Placed.{Placed}
@@ -21,7 +21,6 @@ use Rattle.lr_shelf.specs.declared.error.ShelfError.TheVariants.{Disk as Disk'}
 use Rattle.lr_shelf.specs.declared.error.ShelfError.TheVariants.{Capacity as Capacity'}
 use Rattle.lr_shelf.specs.declared.error.ShelfError.TheVariants.{NoMemory as NoMemory'}
 use Rattle.lr_shelf.specs.declared.error.ShelfError.TheVariants.{Failed as Failed'}
-use Rattle.lr_catalog.specs.Files.{shelved_line}
 use Rattle.lr_causes.specs.declared.cause.Cause.TheVariants.{Failed, NoMemory}
 use Rattle.lr_causes.specs.declared.cause.Party.TheVariants.{Disk, Output}
 use Rattle.lr_refusals.specs.Errors.{cause_of}
@@ -29,13 +28,15 @@ use Rattle.lr_causes.specs.Puts.{Puts, PutFails}
 use Rattle.lr_shelf.specs.InitialShelves.{InitialShelf, IsSettledOn, next_number, StandsWith, StandsWithEither}
 use Rattle.lr_shelf.specs.Prefixes.{HasRoom, end_with}
 use Rattle.lr_cmd_receive.specs.Onto.{ChangesImagesFor}
-use Rattle.lr_cmd_receive.specs.Shelving.{shelved_lines}
+use Rattle.lr_cmd_receive.specs.Noted.{NotedFile, noted_file, placed_files}
+use Rattle.lr_cmd_receive.specs.Shelving.{noted_line, shelved_lines}
 use Rattle.lr_cmd_receive.specs.Shelved.{ShelvesSoFar, HasShelved, StopsShelving, Grows, GrowsNoMore, shelf_in}
 use Rattle.lr_cmd_receive.proofs.Acknowledging.{either_acknowledged, lines_alone, still_acknowledged}
 use Rattle.lr_cmd_receive.proofs.Causing.{append_works, first_out, first_refused, first_stays}
 use Rattle.lr_cmd_receive.proofs.Changing.{change_for, no_change}
 use Rattle.lr_shelf.proofs.InitialShelves.{left_on, moments_on, now_on, settled_on}
 use Rattle.lr_cmd_receive.proofs.Growing.{grows_one, stops_at_one, stops_for_memory}
+use Rattle.lr_cmd_receive.proofs.Noted.{length-placed, placed-append}
 use Rattle.lr_cmd_receive.proofs.ShelvedLines.{shelved_lines-cons, shelved_lines-none}
 use Rattle.lr_causes.specs.Outside.{outlets, outlets_of, Outlets, OutletsOf}
 use Rattle.lr_cmd_receive.proofs.Shelving.{append_kind, out_of_memory, append_stopped, line_put, line_stopped}
@@ -119,7 +120,7 @@ images_one disk placed shelf d d' room run =
     (outside_one placed shelf (disk.contents d) c stays)) run
 
 -- there was no memory for its line
-pub no_line : {D O : Type 0} (world : OutletsOf D O) (files : List Placed) (shelf : Shelf) (w : Outlets D O)
+pub no_line : {D O : Type 0} (world : OutletsOf D O) (files : List NotedFile) (shelf : Shelf) (w : Outlets D O)
     → StopsShelving world NoMemory files (shelf_in shelf w) w
 no_line world files shelf w = record {
   kind = tt;
@@ -132,9 +133,9 @@ no_line world files shelf w = record {
   stops = λ initial done before so_far. out_of_memory world initial done shelf before w so_far files;
   keeps = λ initial done before so_far. still_acknowledged world initial done files before w so_far.settled.on_disk
       (lines_alone world initial done before w so_far.put.put);
-  grown = stops_for_memory files shelf w;
+  grown = stops_for_memory (placed_files files) shelf w;
   outside = λ t.
-      no_change (kept_by shelf).way files (world.disk.contents w.disk) (world.disk.contents w.disk) refl;
+      no_change (kept_by shelf).way (placed_files files) (world.disk.contents w.disk) (world.disk.contents w.disk) refl;
   moments = λ t only. inl refl;
 }
 
@@ -142,11 +143,14 @@ module _ {D O : Type 0} (disk : DiskOf D)
     (leaves_contents : (d : D) → disk.tells d → disk.may_leave d (disk.contents d))
     (counts_now : (d : D) (t : ℕ) (c : List ℕ) → disk.tells d → t ≤ disk.moment d → disk.may_leave d c
     → disk.left_since d t c)
-    (out : SinkOf O) (placed : Placed) (shelf shelf' : Shelf) (d d' : D) (o : O) where
+    (out : SinkOf O) (placed : Placed) (fillers : Option ℕ) (shelf shelf' : Shelf) (d d' : D) (o : O) where
+  abbrev noted : NotedFile
+  noted = noted_file placed fillers
+
   -- it wasn't appended
   pub one_refused : (e : ShelfError) → IsFile placed.file
       → Appends disk placed (shelf_on shelf d) (shelf_on shelf' d') (Err e)
-      → StopsShelving (outlets_of disk out) (cause_of e) (placed ∷ []) (shelf_in shelf (outlets d o)) (outlets d' o)
+      → StopsShelving (outlets_of disk out) (cause_of e) (noted ∷ []) (shelf_in shelf (outlets d o)) (outlets d' o)
   one_refused e is appends =
       let adds = appends.adds in
       record {
@@ -159,18 +163,23 @@ module _ {D O : Type 0} (disk : DiskOf D)
             (append_works (item_for placed) (kept_by shelf) e appends.refused works) adds.calls.counted;
         stops = λ initial done before so_far.
             let settled = so_far.settled in
-            append_stopped (outlets_of disk out) initial done shelf before (outlets d o) so_far placed d'
-            (moments_on disk leaves_contents counts_now done placed shelf shelf' d d' (Err e) adds initial settled)
+            append_stopped (outlets_of disk out) initial done shelf before (outlets d o) so_far noted d'
+            (moments_on disk leaves_contents counts_now (placed_files done) placed shelf shelf' d d'
+            (Err e) adds initial settled)
             e is
-            (now_on disk leaves_contents counts_now done placed shelf shelf' d d' (Err e) adds initial settled)
-            (left_on disk leaves_contents counts_now done placed shelf shelf' d d' (Err e) adds initial settled)
+            (now_on disk leaves_contents counts_now (placed_files done) placed shelf shelf' d d'
+            (Err e) adds initial settled)
+            (left_on disk leaves_contents counts_now (placed_files done) placed shelf shelf' d d'
+            (Err e) adds initial settled)
             (λ other. ⊎_elim (λ is. absurd (other is)) (λ same. same.0) adds.untouched)
             appends.refused;
         keeps = λ initial done before so_far.
             let settled = so_far.settled in
-            either_acknowledged (outlets_of disk out) initial done placed before (outlets d' o)
-            (now_on disk leaves_contents counts_now done placed shelf shelf' d d' (Err e) adds initial settled)
-            (left_on disk leaves_contents counts_now done placed shelf shelf' d d' (Err e) adds initial settled)
+            either_acknowledged (outlets_of disk out) initial done noted before (outlets d' o)
+            (now_on disk leaves_contents counts_now (placed_files done) placed shelf shelf' d d'
+            (Err e) adds initial settled)
+            (left_on disk leaves_contents counts_now (placed_files done) placed shelf shelf' d d'
+            (Err e) adds initial settled)
             (lines_alone (outlets_of disk out) initial done before (outlets d' o) so_far.put.put);
         grown = not_appended disk placed shelf shelf' d d' o (Err e) appends e appends.refused;
         outside = λ t. ⊎_elim
@@ -197,22 +206,24 @@ module _ {D O : Type 0} (disk : DiskOf D)
   -- it was
   module _ (number : ℕ) (appends : Appends disk placed (shelf_on shelf d) (shelf_on shelf' d') (Ok number)) (n : ℕ)
       (text : List ℕ)
-      (place : n ≡ length (kept_by shelf).way.entries) (is : text ≡ shelved_line n placed.file) (o' : O) where
-    module _ (initial : InitialShelf) (done : List Placed) (before : Outlets D O)
+      (place : n ≡ length (kept_by shelf).way.entries) (is : text ≡ noted_line n noted) (o' : O) where
+    module _ (initial : InitialShelf) (done : List NotedFile) (before : Outlets D O)
         (so_far : ShelvesSoFar (outlets_of disk out) initial done before (shelf_in shelf (outlets d o))) where
-      settled_now : IsSettledOn initial (done ++ placed ∷ []) disk shelf' d'
+      settled_now : IsSettledOn initial (placed_files (done ++ noted ∷ [])) disk shelf' d'
       settled_now =
-          settled_on disk leaves_contents counts_now done placed shelf shelf' d d' number appends.adds initial
-          so_far.settled
+          subst (λ (l : List Placed). IsSettledOn initial l disk shelf' d') (sym (placed-append done (noted ∷ [])))
+          (settled_on disk leaves_contents counts_now (placed_files done) placed shelf shelf' d d' number appends.adds
+          initial so_far.settled)
 
-      run : EachImageSince disk d d' (StandsWithEither initial done placed)
+      run : EachImageSince disk d d' (StandsWithEither initial (placed_files done) placed)
       run =
-          moments_on disk leaves_contents counts_now done placed shelf shelf' d d' (Ok number) appends.adds initial
+          moments_on disk leaves_contents counts_now (placed_files done) placed shelf shelf' d d'
+          (Ok number) appends.adds initial
           so_far.settled
 
     -- and its line was put
     pub one_shelved : Puts out text o o'
-        → HasShelved (outlets_of disk out) (placed ∷ []) (shelf_in shelf (outlets d o))
+        → HasShelved (outlets_of disk out) (noted ∷ []) (shelf_in shelf (outlets d o))
         (shelf_in shelf' (outlets d' o'))
     one_shelved put = record {
       told_by_disk = appends.adds.calls.told;
@@ -223,7 +234,7 @@ module _ {D O : Type 0} (disk : DiskOf D)
       disk_count = appends.adds.calls.counted;
       out_count = put.kept;
       shelved = λ initial done before so_far.
-          line_put (outlets_of disk out) initial done shelf before (outlets d o) so_far placed
+          line_put (outlets_of disk out) initial done shelf before (outlets d o) so_far noted
           d' (run initial done before so_far) shelf'
           (settled_now initial done before so_far) n text place is o' appends.adds.calls.counted put;
       grown = appended disk placed shelf shelf' d d' o (Ok number) appends number refl o';
@@ -240,17 +251,17 @@ module _ {D O : Type 0} (disk : DiskOf D)
       );
     }
       where
-        one_line : text ≡ shelved_lines (length (kept_by shelf).way.entries) (placed ∷ [])
+        one_line : text ≡ shelved_lines (length (kept_by shelf).way.entries) (noted ∷ [])
         one_line =
-            is ∙ ap (λ (k : ℕ). shelved_line k placed.file) place
-            ∙ sym (append-nil (shelved_line (length (kept_by shelf).way.entries) placed.file))
-            ∙ ap (λ (l : List ℕ). shelved_line (length (kept_by shelf).way.entries) placed.file ++ l)
+            is ∙ ap (λ (k : ℕ). noted_line k noted) place
+            ∙ sym (append-nil (noted_line (length (kept_by shelf).way.entries) noted))
+            ∙ ap (λ (l : List ℕ). noted_line (length (kept_by shelf).way.entries) noted ++ l)
             (sym (shelved_lines-none (length (kept_by shelf).way.entries + 1)))
-            ∙ sym (shelved_lines-cons (length (kept_by shelf).way.entries) placed [])
+            ∙ sym (shelved_lines-cons (length (kept_by shelf).way.entries) noted [])
 
     -- and a part of its line
     pub one_cut : PutFails out text o o'
-        → StopsShelving (outlets_of disk out) (Failed Output) (placed ∷ []) (shelf_in shelf (outlets d o))
+        → StopsShelving (outlets_of disk out) (Failed Output) (noted ∷ []) (shelf_in shelf (outlets d o))
         (outlets d' o')
     one_cut fails = record {
       kind = tt;
@@ -262,27 +273,32 @@ module _ {D O : Type 0} (disk : DiskOf D)
           appends.adds.calls.counted;
       stops = λ initial done before so_far.
           line_stopped (outlets_of disk out) initial done shelf before (outlets d o) so_far
-          placed d' (run initial done before so_far) shelf'
+          noted d' (run initial done before so_far) shelf'
           (settled_now initial done before so_far) n text place is o' fails;
       keeps = λ initial done before so_far.
-          let both = done ++ placed ∷ [] in
+          let both = placed_files (done ++ noted ∷ []) in
+          let size : length done ≤ length both = omega (
+            arith,
+            length-placed (done ++ noted ∷ []),
+            length-append done (noted ∷ []),
+          ) in
           let lines = shelved_lines (next_number initial) done in
           let still = (settled_now initial done before so_far).on_disk in record {
-            others = placed ∷ [];
+            others = noted ∷ [];
             split = refl;
             held = record {
               contents = record {
                 first = both;
                 rest = [];
                 split = sym (append-nil both);
-                enough = omega (arith, length-append done (placed ∷ []));
+                enough = size;
                 stands = still.stands;
               };
               images = λ c image. record {
                 first = both;
                 rest = [];
                 split = sym (append-nil both);
-                enough = omega (arith, length-append done (placed ∷ []));
+                enough = size;
                 stands = subst (StandsWith initial both) (sym (still.durable c image)) still.stands;
               };
             };

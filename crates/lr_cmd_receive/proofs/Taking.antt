@@ -1,32 +1,32 @@
 -- `receive` goes on by one outcome, and what it does with all that comes of its input.
-use Rattle.std.proofs.Common.{◌≡◌, ℕ, ◌+◌, ◌*◌, ◌<◌, ◌≤◌, ◌^◌, List, [], ◌∷◌, ◌++◌, length, ap, ◌∙◌}
+use Rattle.std.proofs.Common.{◌≡◌, ◌==◌, not, ℕ, ◌+◌, ◌*◌, ◌<◌, ◌≤◌, ◌^◌, List, [], ◌∷◌, ◌++◌, length, ap, ◌∙◌}
 use Rattle.std.proofs.Common.{sym, refl, subst, arith, append_assoc, append-nil, length-append}
 use Rattle.std.proofs.Common.{⊎_elim}
 use Rattle.std.proofs.lemmas.Bool.{cases_lt}
 use Rattle.std.proofs.lemmas.List.{length-map, map-append}
 use Rattle.lr_bits.specs.declared.outcome.Outcome.{Outcome}
-use Rattle.lr_bits.specs.declared.placed.Placed.{Placed}
 use Rattle.lr_bits.specs.declared.sizes.TheConstants.{FRAME_BYTES}
 use Rattle.lr_io.specs.declared.source.Source.{Ghosts as SourceOf}
 use Rattle.lr_io.specs.declared.sink.Sink.{Ghosts as SinkOf}
 use Rattle.lr_disk.specs.declared.disk.Disk.{Ghosts as DiskOf}
-use Rattle.lr_layers.specs.Layers.{CountsView, numbers_of}
-use Rattle.lr_layers.specs.Origins.{marked_of_outcomes, placed_of_outcomes, placed_packets}
-use Rattle.lr_layers.specs.Standing.{LayersStandFor, numbers}
+use Rattle.lr_layers.specs.Layers.{CountsView, mended_numbers_of}
+use Rattle.lr_layers.specs.Origins.{marked_of_outcomes, placed_packets}
+use Rattle.lr_layers.specs.Standing.{MendingLayersStandFor, numbers}
 use Rattle.lr_causes.specs.declared.cause.Cause.{Cause}
 use Rattle.lr_causes.specs.declared.cause.Cause.TheVariants.{NoMemory}
 use Rattle.lr_reading.specs.Arrivals.{arrivals_of, outcomes_of_arrivals}
 use Rattle.lr_reading.specs.Runs.{TakesAll, TakesSome, course_of, lent}
 use Rattle.lr_reading.specs.declared.arrival.Arrival.{Arrival}
 use Rattle.lr_forms.specs.declared.forms.Input.{Input}
-use Rattle.lr_reading.proofs.Coming.{outcomes_are, outcomes_counted, no_arrivals}
+use Rattle.lr_reading.proofs.Coming.{outcomes_are, no_arrivals}
 use Rattle.lr_cmd_receive.specs.declared.shelver.Shelver.{Shelver}
 use Rattle.lr_cmd_receive.specs.declared.receive_counts.ReceiveCounts.{ReceiveCounts}
 use Rattle.lr_cmd_receive.specs.Inputs.{files_of_bytes}
+use Rattle.lr_cmd_receive.specs.Noted.{NotedFile, noted_of_outcomes}
 use Rattle.lr_cmd_receive.specs.Reception.{FewWait, ReadsAll, ReadsSome, taken_bytes, reception}
 use Rattle.lr_cmd_receive.specs.Shelved.{HasShelved, ShelvesSoFar, StopsShelving, Gains, GainsNoMore}
 use Rattle.lr_cmd_receive.specs.Shelved.{shelf_in, one_more}
-use Rattle.lr_cmd_receive.specs.ShelverTaken.{IsOnSame, ShelverTook, ShelverStopped, lent_to}
+use Rattle.lr_cmd_receive.specs.ShelverTaken.{IsOnSame, ShelverTook, ShelverStopped, files_of_arrivals, lent_to, mend_of}
 use Rattle.lr_layers.proofs.Pushing.{both_kinds}
 use Rattle.lr_cmd_receive.specs.Shelving.{AreAcknowledged, files_onto}
 use Rattle.lr_cmd_receive.proofs.FirstFiles.{files_first}
@@ -39,45 +39,48 @@ use Rattle.lr_reading.specs.Readers.{Leeway}
 use Rattle.lr_shelf.specs.InitialShelves.{InitialShelf}
 
 -- no outcomes have no files
-pub no_files : placed_of_outcomes [] ≡ []
-unfolding marked_of_outcomes placed_packets
-no_files = refl
+pub no_files : (mend : ℕ) → noted_of_outcomes mend [] ≡ []
+unfolding noted_of_outcomes marked_of_outcomes placed_packets
+no_files mend = refl
 
 -- no bytes have none
-pub no_bytes : (input : Input) → files_of_bytes input [] ≡ []
+pub no_bytes : (mend : ℕ) (input : Input) → files_of_bytes mend input [] ≡ []
 unfolding files_of_bytes
-no_bytes input = ap placed_of_outcomes (outcomes_are input [] ∙ ap outcomes_of_arrivals (no_arrivals input))
-    ∙ no_files
+no_bytes mend input =
+    ap (noted_of_outcomes mend) (outcomes_are input [] ∙ ap outcomes_of_arrivals (no_arrivals input)) ∙ no_files mend
 
 -- one outcome more
 outcomes-push : (arrivals : List Arrival) (arrival : Arrival) → outcomes_of_arrivals (arrivals ++ arrival ∷ [])
     ≡ outcomes_of_arrivals arrivals ++ arrival.outcome ∷ []
 outcomes-push arrivals arrival = map-append (λ (a : Arrival). a.outcome) arrivals (arrival ∷ [])
 
-files_all : (input : Input) (bytes : List ℕ)
-    → files_of_bytes input bytes ≡ placed_of_outcomes (outcomes_of_arrivals (arrivals_of input bytes))
+files_all : (mend : ℕ) (input : Input) (bytes : List ℕ)
+    → files_of_bytes mend input bytes ≡ files_of_arrivals mend (arrivals_of input bytes)
 unfolding files_of_bytes
-files_all input bytes = ap placed_of_outcomes (outcomes_are input bytes)
+files_all mend input bytes = ap (noted_of_outcomes mend) (outcomes_are input bytes)
 
 -- ---- one outcome more
 
 module _ {D O : Type 0} (disk : DiskOf D) (out : SinkOf O) where
   -- it begins
-  pub shelver_begun : (shelver : Shelver D O) → LayersStandFor shelver.layers.now []
-      → numbers shelver.counts ≡ shelver.layers.now.numbers → ShelverTook (outlets_of disk out) shelver [] shelver
-  shelver_begun shelver stands counted = record {
+  pub shelver_begun : (shelver : Shelver D O) → MendingLayersStandFor (mend_of shelver) shelver.layers.now []
+      → numbers shelver.counts ≡ shelver.layers.now.numbers → shelver.mends ≡ not (mend_of shelver == 0)
+      → ShelverTook (outlets_of disk out) shelver [] shelver
+  shelver_begun shelver stands counted mends = record {
     on_same = record { same_layers = refl; same_shelf = refl; same_disk = refl; same_out = refl };
     stands = stands;
     counted = counted;
-    shelved = subst (λ (l : List Placed). HasShelved (outlets_of disk out) l
-        (shelf_in shelver.shelf.now (lent_to shelver)) (shelf_in shelver.shelf.now (lent_to shelver))) (sym no_files)
+    mends = mends;
+    shelved = subst (λ (l : List NotedFile). HasShelved (outlets_of disk out) l
+        (shelf_in shelver.shelf.now (lent_to shelver)) (shelf_in shelver.shelf.now (lent_to shelver)))
+        (sym (no_files (mend_of shelver)))
         (shelved_none (outlets_of disk out) shelver.shelf.now (lent_to shelver));
   }
 
-  pub shelver_ready : (shelver : Shelver D O) → LayersStandFor shelver.layers.now []
-      → numbers shelver.counts ≡ shelver.layers.now.numbers
+  pub shelver_ready : (shelver : Shelver D O) → MendingLayersStandFor (mend_of shelver) shelver.layers.now []
+      → numbers shelver.counts ≡ shelver.layers.now.numbers → shelver.mends ≡ not (mend_of shelver == 0)
       → (first : Shelver D O) × ShelverTook (outlets_of disk out) first [] shelver
-  shelver_ready shelver stands counted = (shelver, shelver_begun shelver stands counted)
+  shelver_ready shelver stands counted mends = (shelver, shelver_begun shelver stands counted mends)
 
   module _ {before now : Shelver D O} {arrivals : List Arrival}
       (took : ShelverTook (outlets_of disk out) before arrivals now) where
@@ -96,10 +99,10 @@ module _ {D O : Type 0} (disk : DiskOf D) (out : SinkOf O) where
     -- memory for reading on was refused
     pub shelver_refused : ShelverStopped (outlets_of disk out) before arrivals NoMemory now
     shelver_refused =
-        let files = placed_of_outcomes (outcomes_of_arrivals arrivals) in
+        let files = files_of_arrivals (mend_of before) arrivals in
         record {
           on_same = took.on_same;
-          stopped = subst (λ (l : List Placed). StopsShelving (outlets_of disk out) NoMemory l
+          stopped = subst (λ (l : List NotedFile). StopsShelving (outlets_of disk out) NoMemory l
               (shelf_in before.shelf.now (lent_to before)) (lent_to now)) (append-nil files)
               (stopped_after (outlets_of disk out) took.shelved
               (no_line (outlets_of disk out) [] now.shelf.now (lent_to now)));
@@ -108,7 +111,7 @@ module _ {D O : Type 0} (disk : DiskOf D) (out : SinkOf O) where
           split = sym (append-nil arrivals);
           one = omega arith;
           keeps = λ initial start so_far.
-              subst (λ (l : List Placed). AreAcknowledged (outlets_of disk out) (files_onto initial l) files start
+              subst (λ (l : List NotedFile). AreAcknowledged (outlets_of disk out) (files_onto initial l) files start
               (lent_to now))
               (append-nil files)
               ((no_line (outlets_of disk out) [] now.shelf.now (lent_to now)).keeps initial files start
@@ -124,22 +127,25 @@ module _ {D O : Type 0} (disk : DiskOf D) (out : SinkOf O) where
         same_out = same.same_out ∙ took.on_same.same_out;
       }
 
-      is : placed_of_outcomes (outcomes_of_arrivals arrivals ++ arrival.outcome ∷ [])
-          ≡ placed_of_outcomes (outcomes_of_arrivals (arrivals ++ arrival ∷ []))
-      is = ap placed_of_outcomes (sym (outcomes-push arrivals arrival))
+      is : noted_of_outcomes (mend_of before) (outcomes_of_arrivals arrivals ++ arrival.outcome ∷ [])
+          ≡ files_of_arrivals (mend_of before) (arrivals ++ arrival ∷ [])
+      is = ap (noted_of_outcomes (mend_of before)) (sym (outcomes-push arrivals arrival))
 
       -- its files were shelved
-      pub shelver_more : LayersStandFor now'.layers.now (outcomes_of_arrivals arrivals ++ arrival.outcome ∷ [])
-          → numbers now'.counts ≡ now'.layers.now.numbers
-          → Gains (outlets_of disk out) (one_more (outcomes_of_arrivals arrivals) arrival.outcome)
+      pub shelver_more : MendingLayersStandFor (mend_of before) now'.layers.now
+          (outcomes_of_arrivals arrivals ++ arrival.outcome ∷ [])
+          → numbers now'.counts ≡ now'.layers.now.numbers → now'.mends ≡ now.mends
+          → Gains (outlets_of disk out) (one_more (mend_of before) (outcomes_of_arrivals arrivals) arrival.outcome)
           (shelf_in now.shelf.now (lent_to now)) (shelf_in now'.shelf.now (lent_to now'))
           → ShelverTook (outlets_of disk out) before (arrivals ++ arrival ∷ []) now'
-      shelver_more stands counted gains = record {
+      shelver_more stands counted same_mends gains = record {
         on_same = both;
-        stands = subst (λ (l : List Outcome). LayersStandFor now'.layers.now l) (sym (outcomes-push arrivals arrival))
-            stands;
+        stands = subst (λ (l : List Outcome). MendingLayersStandFor (mend_of before) now'.layers.now l)
+            (sym (outcomes-push arrivals arrival)) stands;
         counted = counted;
-        shelved = subst (λ (l : List Placed). HasShelved (outlets_of disk out) l
+        mends = same_mends ∙ took.mends
+            ∙ ap (λ (n : ℕ). not (n == 0)) (took.stands.most ∙ sym stands.most);
+        shelved = subst (λ (l : List NotedFile). HasShelved (outlets_of disk out) l
             (shelf_in before.shelf.now (lent_to before)) (shelf_in now'.shelf.now (lent_to now')))
             (sym gains.files ∙ is)
             (shelved_on (outlets_of disk out) took.shelved gains.shelved);
@@ -147,12 +153,13 @@ module _ {D O : Type 0} (disk : DiskOf D) (out : SinkOf O) where
 
       -- they were not
       pub shelver_stopped : (cause : Cause)
-          → GainsNoMore (outlets_of disk out) cause (one_more (outcomes_of_arrivals arrivals) arrival.outcome)
+          → GainsNoMore (outlets_of disk out) cause (one_more (mend_of before)
+          (outcomes_of_arrivals arrivals) arrival.outcome)
           (shelf_in now.shelf.now (lent_to now)) (lent_to now')
           → ShelverStopped (outlets_of disk out) before (arrivals ++ arrival ∷ []) cause now'
       shelver_stopped cause gains = record {
         on_same = both;
-        stopped = subst (λ (l : List Placed). StopsShelving (outlets_of disk out) cause l
+        stopped = subst (λ (l : List NotedFile). StopsShelving (outlets_of disk out) cause l
             (shelf_in before.shelf.now (lent_to before)) (lent_to now')) (sym gains.files ∙ is)
             (stopped_after (outlets_of disk out) took.shelved gains.stopped);
         worked = arrivals;
@@ -160,8 +167,8 @@ module _ {D O : Type 0} (disk : DiskOf D) (out : SinkOf O) where
         split = refl;
         one = omega arith;
         keeps = λ initial start so_far.
-            let files = placed_of_outcomes (outcomes_of_arrivals arrivals) in
-            subst (λ (l : List Placed). AreAcknowledged (outlets_of disk out) (files_onto initial l) files start
+            let files = files_of_arrivals (mend_of before) arrivals in
+            subst (λ (l : List NotedFile). AreAcknowledged (outlets_of disk out) (files_onto initial l) files start
             (lent_to now'))
             (sym gains.files ∙ is)
             (gains.stopped.keeps initial files start (took.shelved.shelved initial [] start so_far));
@@ -172,11 +179,11 @@ module _ {D O : Type 0} (disk : DiskOf D) (out : SinkOf O) where
 module _ {S D O : Type 0} (source : SourceOf S) (disk : DiskOf D) (out : SinkOf O) (input : Input) (limit : ℕ)
     {s s' : S} {before now : Shelver D O} (begun : ShelverTook (outlets_of disk out) before [] before) where
   -- all files were shelved
-  pub received_all : (leeway : Leeway) (sums : ReceiveCounts)
+  received_all : (leeway : Leeway) (sums : ReceiveCounts)
       → TakesAll (course_of source (ShelverTook (outlets_of disk out)) input limit leeway) sums.totals
       (lent s before) (lent s' now)
       → sums.counts ≡ now.counts
-      → ReadsAll (world_of source disk out) (reception input limit leeway) sums
+      → ReadsAll (world_of source disk out) (reception (mend_of before) input limit leeway) sums
       (shelf_in before.shelf.now (outside s before.disk.now before.out.now))
       (shelf_in now.shelf.now (outside s' now.disk.now now.out.now))
   received_all leeway sums all same =
@@ -185,27 +192,28 @@ module _ {S D O : Type 0} (source : SourceOf S) (disk : DiskOf D) (out : SinkOf 
         bytes = all.bytes;
         ends = all.ends;
         counts = ap numbers same ∙ took.counted ∙ took.stands.numbers
-            ∙ ap (λ (l : List Outcome). numbers_of l) (sym (outcomes_are input all.bytes));
-        shelved = subst (λ (l : List Placed). HasShelved (outlets_of disk out) l
+            ∙ ap (λ (l : List Outcome). mended_numbers_of (mend_of before) l) (sym (outcomes_are input all.bytes));
+        shelved = subst (λ (l : List NotedFile). HasShelved (outlets_of disk out) l
             (shelf_in before.shelf.now (lent_to before)) (shelf_in now.shelf.now (lent_to now)))
-            (sym (files_all input all.bytes)) took.shelved;
-        in_time = all_come_first source input leeway all.bytes s s' all.in_time;
+            (sym (files_all (mend_of before) input all.bytes)) took.shelved;
+        in_time = all_come_first source (mend_of before) input leeway all.bytes s s' all.in_time;
       }
 
   -- they were not
-  pub received_some : (leeway : Leeway) (cause : Cause)
+  received_some : (leeway : Leeway) (cause : Cause)
       → TakesSome (course_of source (ShelverTook (outlets_of disk out)) input limit leeway)
       (ShelverStopped (outlets_of disk out)) cause
       (lent s before) (lent s' now)
-      → ReadsSome (world_of source disk out) (reception input limit leeway) cause
+      → ReadsSome (world_of source disk out) (reception (mend_of before) input limit leeway) cause
       (shelf_in before.shelf.now (outside s before.disk.now before.out.now)) (outside s' now.disk.now now.out.now)
   received_some leeway cause some =
       let halted = some.stops before begun in
       let stopped = halted.stopped in
-      let first = files_first input some.bytes some.passed some.rest some.split in
+      let first = files_first (mend_of before) input some.bytes some.passed some.rest some.split in
       let timely : (initial : InitialShelf) (start : Outlets D O)
       → ShelvesSoFar (outlets_of disk out) initial [] start (shelf_in before.shelf.now (lent_to before))
-      → FewWait (outlets_of disk out) initial (taken_bytes input leeway some.bytes) start (lent_to now) =
+      → FewWait (outlets_of disk out) initial (taken_bytes (mend_of before) input leeway some.bytes) start
+      (lent_to now) =
       λ initial start so_far. record {
         worked = outcomes_of_arrivals halted.worked;
         late = outcomes_of_arrivals (halted.late ++ some.rest);
@@ -229,24 +237,49 @@ module _ {S D O : Type 0} (source : SourceOf S) (disk : DiskOf D) (out : SinkOf 
               halted.one,
               length-map halted.worked (λ (a : Arrival). a.outcome),
             )) (cases_lt count 1);
-        acknowledged = subst (λ (l : List Placed). AreAcknowledged (outlets_of disk out) (files_onto initial l)
-            (placed_of_outcomes (outcomes_of_arrivals halted.worked)) start (lent_to now)) (sym first.1)
+        acknowledged = subst (λ (l : List NotedFile). AreAcknowledged (outlets_of disk out) (files_onto initial l)
+            (files_of_arrivals (mend_of before) halted.worked) start (lent_to now)) (sym first.1)
             (acknowledged_more (outlets_of disk out) initial first.0 (halted.keeps initial start so_far));
       } in
       record {
         bytes = some.bytes;
         read = some.read;
-        stopped = subst (λ (l : List Placed). StopsShelving (outlets_of disk out) cause l
+        stopped = subst (λ (l : List NotedFile). StopsShelving (outlets_of disk out) cause l
             (shelf_in before.shelf.now (lent_to before)) (lent_to now)) (sym first.1)
             (stopped_before (outlets_of disk out) first.0 stopped);
-        files = placed_of_outcomes (outcomes_of_arrivals some.passed);
+        files = files_of_arrivals (mend_of before) some.passed;
         early = stopped;
         first = λ line symbols told few calm.
             let later = some.first line symbols told few calm in
-            files_first input (some.bytes ++ source.left s') some.passed later.0 later.1;
+            files_first (mend_of before) input (some.bytes ++ source.left s') some.passed later.0 later.1;
         timely = timely;
-        in_time = λ initial start so_far. worked_in_time source input leeway some.bytes s s'
+        in_time = λ initial start so_far. worked_in_time source (mend_of before) input leeway some.bytes s s'
             (outlets_of disk out) initial start (lent_to now) some.passed some.rest halted.worked halted.late
             some.split
             halted.split halted.one (timely initial start so_far) refl some.in_time;
       }
+
+  -- the same, where an image may have so many fillers
+  module _ (mend : ℕ) (most : mend_of before ≡ mend) where
+    pub read_all : (leeway : Leeway) (sums : ReceiveCounts)
+        → TakesAll (course_of source (ShelverTook (outlets_of disk out)) input limit leeway) sums.totals
+        (lent s before) (lent s' now)
+        → sums.counts ≡ now.counts
+        → ReadsAll (world_of source disk out) (reception mend input limit leeway) sums
+        (shelf_in before.shelf.now (outside s before.disk.now before.out.now))
+        (shelf_in now.shelf.now (outside s' now.disk.now now.out.now))
+    read_all leeway sums all same =
+        subst (λ (n : ℕ). ReadsAll (world_of source disk out) (reception n input limit leeway) sums
+        (shelf_in before.shelf.now (outside s before.disk.now before.out.now))
+        (shelf_in now.shelf.now (outside s' now.disk.now now.out.now))) most (received_all leeway sums all same)
+
+    pub read_some : (leeway : Leeway) (cause : Cause)
+        → TakesSome (course_of source (ShelverTook (outlets_of disk out)) input limit leeway)
+        (ShelverStopped (outlets_of disk out)) cause
+        (lent s before) (lent s' now)
+        → ReadsSome (world_of source disk out) (reception mend input limit leeway) cause
+        (shelf_in before.shelf.now (outside s before.disk.now before.out.now)) (outside s' now.disk.now now.out.now)
+    read_some leeway cause some =
+        subst (λ (n : ℕ). ReadsSome (world_of source disk out) (reception n input limit leeway) cause
+        (shelf_in before.shelf.now (outside s before.disk.now before.out.now)) (outside s' now.disk.now now.out.now))
+        most (received_some leeway cause some)

@@ -13,9 +13,6 @@ use Rattle.lr_shelf_format.specs.Items.{Item}
 use Rattle.lr_shelf_format.specs.Header.{header_bytes}
 use Rattle.lr_shelf_format.specs.ShelfBytes.{StandsForShelf}
 use Rattle.lr_shelf_format.proofs.HeaderLemmas.{length-header_bytes}
-use Rattle.lr_conv.specs.declared.line.TheConstants.{STANDARD}
-use Rattle.lr_forms.specs.declared.forms.Input.TheVariants.{Symbols}
-use Rattle.lr_cmd_receive.specs.Inputs.{files_of_bytes}
 use Rattle.lr_shelf.specs.Init.{Inits, IsBlank, IsInitRefusal, IsLeftByInit, IsTaken, new_shelf}
 use Rattle.lr_shelf.specs.Shelf.{IsDurable}
 use Rattle.lr_shelf.specs.declared.error.ShelfError.{ShelfError}
@@ -30,7 +27,7 @@ use Rattle.lr_cmd_receive.specs.Filling.{FillEnds, Fills, IsWithdrawn, LeavesBla
 use Rattle.lr_causes.specs.Counts.{CountsTell}
 use Rattle.lr_cmd_receive.specs.First.{SourceBesides}
 use Rattle.lr_shelf.specs.InitialShelves.{with_files}
-use Rattle.lr_cmd_receive.specs.Trial.{trial_capacity, StandsForPart, GotFiles, IsLeftByTrial, IsBare}
+use Rattle.lr_cmd_receive.specs.Trial.{trial_capacity, StandsForPart, GotFiles, IsLeftByTrial, IsBare, trial_files}
 use Rattle.lr_cmd_receive.specs.Trial.{HoldsTrialPart, DiskEnds, LeavesDisk, OutEnds, TrialRun}
 use Rattle.lr_cmd_receive.proofs.Causing.{first_disk, first_later, first_refused, first_stays}
 use Rattle.lr_cmd_receive.proofs.Changing.{change_cut}
@@ -207,7 +204,7 @@ module _ {D O : Type 0} (disk : DiskOf D) (out : SinkOf O) (symbols : List ℕ) 
           → Cut 20 (disk.contents d2) c → GotFiles symbols (new_shelf trial_capacity) c
       cut_part told c stands cut = record {
         stands = stands_part told c stands;
-        changes = change_cut trial_capacity (files_of_bytes (Symbols STANDARD) symbols) (new_shelf trial_capacity)
+        changes = change_cut trial_capacity (trial_files symbols) (new_shelf trial_capacity)
             (disk.contents d2) c
             (omega (
               arith,

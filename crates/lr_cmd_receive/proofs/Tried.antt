@@ -11,11 +11,10 @@ use Rattle.lr_cmd_receive.specs.declared.receive_counts.ReceiveCounts.{ReceiveCo
 use Rattle.lr_conv.specs.declared.line.TheConstants.{STANDARD}
 use Rattle.lr_forms.specs.declared.forms.Input.TheVariants.{Symbols}
 use Rattle.lr_causes.specs.Causes.{counts}
-use Rattle.lr_cmd_receive.specs.Inputs.{files_of_bytes}
 use Rattle.lr_cmd_receive.specs.Receive.{receive_last}
 use Rattle.lr_cmd_receive.specs.Reception.{sums_line, PutsLast, LastStops}
 use Rattle.lr_cmd_receive.specs.Shelved.{StopsTrial}
-use Rattle.lr_cmd_receive.specs.Trial.{HoldsTrialPart, OutEnds}
+use Rattle.lr_cmd_receive.specs.Trial.{HoldsTrialPart, OutEnds, trial_files}
 use Rattle.lr_cmd_receive.specs.Filling.{FillEnds, FillsDisk, Fills, StopsFilling}
 use Rattle.lr_causes.proofs.Counting.{counts_tell}
 use Rattle.lr_cmd_receive.proofs.Causing.{first_disk, first_out, first_stays}
@@ -28,7 +27,7 @@ module _ {D O : Type 0} (disk : DiskOf D) (out : SinkOf O) (symbols : List ℕ) 
   all_held : disk.tells d → HoldsTrialPart disk symbols 0 d'
   all_held told =
       let durable = done.ends.0 told in
-      let files = files_of_bytes (Symbols STANDARD) symbols in
+      let files = trial_files symbols in
       record {
         contents = record {
           first = files;
@@ -49,7 +48,7 @@ module _ {D O : Type 0} (disk : DiskOf D) (out : SinkOf O) (symbols : List ℕ) 
     any_moment = done.any_moment;
   }
 
-  module _ (sums : ReceiveCounts) (line : sums_line sums ≡ receive_last (Symbols STANDARD) symbols End) where
+  module _ (sums : ReceiveCounts) (line : sums_line sums ≡ receive_last 0 (Symbols STANDARD) symbols End) where
     pub last_stops : (cause : Cause) → LastStops out sums cause o o'
         → Fills (outlets_of disk out) symbols cause (outlets d o) (outlets d' o')
     last_stops (Failed Output) stops = record {

@@ -34,13 +34,15 @@ use Rattle.lr_forms.specs.declared.forms.Input.TheVariants.{Symbols}
 use Rattle.lr_causes.specs.Causes.{counts}
 use Rattle.lr_refusals.specs.Errors.{cause_of}
 use Rattle.lr_cmd_receive.specs.Inputs.{files_of_bytes}
+use Rattle.lr_cmd_receive.specs.Noted.{placed_files}
+use Rattle.lr_cmd_receive.proofs.Noted.{placed-append, placed_split}
 use Rattle.lr_reading.specs.Reading.{IsRead, EndsFor, within}
 use Rattle.lr_cmd_receive.specs.Receive.{receive_last}
 use Rattle.lr_cmd_receive.specs.Reception.{sums_line, ReadsAll, ReadsSome, reception}
 use Rattle.lr_shelf.specs.InitialShelves.{OfItems, HoldsStill, with_files, StandsForPrefix, LeavesPrefixes}
 use Rattle.lr_cmd_receive.specs.Shelving.{StopsBy, files_onto}
 use Rattle.lr_cmd_receive.specs.Shelved.{MayStop, StopsTrial, ShelvesSoFar, shelf_in}
-use Rattle.lr_cmd_receive.specs.Trial.{trial_capacity, GotFiles, StandsForPart, HoldsTrialPart}
+use Rattle.lr_cmd_receive.specs.Trial.{trial_capacity, GotFiles, StandsForPart, HoldsTrialPart, trial_files}
 use Rattle.lr_cmd_receive.specs.Filling.{FillEnds, FillsDisk, StopsFilling}
 use Rattle.lr_cmd_receive.proofs.Causing.{first_later, first_refused, none_rose}
 use Rattle.lr_causes.specs.Counts.{CountsTell}
@@ -65,7 +67,7 @@ stops_trial _ s s' d d' may caused = absurd may
 
 -- a prefix of the first ones of the files
 stands_for_part : (symbols : List ℕ) (files later : List Placed)
-    → files_of_bytes (Symbols STANDARD) symbols ≡ files ++ later → (n : ℕ) (bytes : List ℕ)
+    → trial_files symbols ≡ files ++ later → (n : ℕ) (bytes : List ℕ)
     → StandsForPrefix (OfItems trial_capacity []) files n bytes → StandsForPart symbols n bytes
 stands_for_part symbols files later split n bytes stands =
     subst (λ (l : List Placed). StandsForPrefix (OfItems trial_capacity []) l n bytes) (sym split)
@@ -75,7 +77,7 @@ stands_for_part symbols files later split n bytes stands =
 none_of : (symbols bytes : List ℕ) → StandsForShelf bytes trial_capacity [] → StandsForPart symbols 0 bytes
 none_of symbols bytes stands = record {
   first = [];
-  rest = files_of_bytes (Symbols STANDARD) symbols;
+  rest = trial_files symbols;
   split = refl;
   enough = omega arith;
   stands = stands;
@@ -109,7 +111,7 @@ module _ {D : Type 0} (disk : DiskOf D) (symbols : List ℕ) (d1 : D)
     got_none : disk.tells d1 → GotFiles symbols (disk.contents d1) (disk.contents d2)
     got_none told = record {
       stands = (holds_none told).contents;
-      changes = no_change (way_of trial_capacity []) (files_of_bytes (Symbols STANDARD) symbols) (disk.contents d1)
+      changes = no_change (way_of trial_capacity []) (trial_files symbols) (disk.contents d1)
           (disk.contents d2) (loads.only_read.unwritten told).contents;
     }
 
@@ -138,7 +140,7 @@ module _ {D : Type 0} (disk : DiskOf D) (symbols : List ℕ) (d1 : D)
         any_moment = λ told. weaker disk.moment disk.left_since d1 d2 _ _
             (λ c at. record { stands = none_of symbols c at.0; changes = at.1 })
             (both_of disk.moment disk.left_since d1 d2 _ _ (empty_moments told)
-            (empty_images (files_of_bytes (Symbols STANDARD) symbols) told));
+            (empty_images (trial_files symbols) told));
       };
       first = first_refused e result2 0 0 (disk.faults d1) (disk.faults d2) 0 is
           (λ failed. subst (λ (x : ShelfError). IsLoadRefusal disk d1 x) failed r) loads.calls.counted;
@@ -169,7 +171,7 @@ module _ {D : Type 0} (disk : DiskOf D) (symbols : List ℕ) (d1 : D)
       way_is : disk.tells d1 → (kept_by shelf).way ≡ way_of trial_capacity []
       way_is told = (begun told).settled.kept.way
 
-      module _ (files later : List Placed) (split : files_of_bytes (Symbols STANDARD) symbols ≡ files ++ later) where
+      module _ (files later : List Placed) (split : trial_files symbols ≡ files ++ later) where
         holds_front : (done rest : List Placed) → files ≡ done ++ rest
             → HoldsStill (OfItems trial_capacity []) done disk d' → HoldsTrialPart disk symbols 0 d'
         holds_front done rest is durable = record {
@@ -232,30 +234,30 @@ module _ {D : Type 0} (disk : DiskOf D) (symbols : List ℕ) (d1 : D)
 
       -- shelving stopped
       module _ (calm : Rose (source.faults s) (source.faults s') → ⊥)
-          (fit : end_of (with_files [] (files_of_bytes (Symbols STANDARD) symbols)) ≤ trial_capacity)
+          (fit : end_of (with_files [] (trial_files symbols)) ≤ trial_capacity)
           (leeway : Leeway) (cause : Cause)
-          (some : ReadsSome (world_of source disk out) (reception (Symbols STANDARD) limit leeway) cause
+          (some : ReadsSome (world_of source disk out) (reception 0 (Symbols STANDARD) limit leeway) cause
           (shelf_in shelf (outside s d2 o)) (outside s' d' o')) where
         split : symbols ≡ some.bytes ++ source.left s'
         split = split_of some.bytes some.read
 
         -- the files that were shelved are the first ones of all
-        come_first : (later : List Placed) × (files_of_bytes (Symbols STANDARD) symbols ≡ some.files ++ later)
+        come_first : (later : List Placed) × (trial_files symbols ≡ placed_files some.files ++ later)
         come_first =
             let few_read : length some.bytes < limit =
             omega (arith, few, ap length split, length-append some.bytes (source.left s')) in
             let first = some.first STANDARD refl given few_read calm in
-            (first.0, ap (files_of_bytes (Symbols STANDARD)) split ∙ first.1)
+            (placed_files first.0, ap trial_files split ∙ placed_split some.files first.0 first.1)
 
         -- and all of them fit
-        all_fit : (done rest : List Placed) (next : Placed) → some.files ≡ done ++ next ∷ rest
+        all_fit : (done rest : List Placed) (next : Placed) → placed_files some.files ≡ done ++ next ∷ rest
             → trial_capacity < end_of (with_files [] (done ++ next ∷ [])) → ⊥
         all_fit done rest next is over =
             let first = come_first in
-            let all : files_of_bytes (Symbols STANDARD) symbols ≡ (done ++ next ∷ []) ++ (rest ++ first.0) =
+            let all : trial_files symbols ≡ (done ++ next ∷ []) ++ (rest ++ first.0) =
             first.1 ∙ ap (λ (l : List Placed). l ++ first.0) is
             ∙ append_assoc done (next ∷ rest) first.0 ∙ sym (append_assoc done (next ∷ []) (rest ++ first.0)) in
-            let whole : with_files [] (files_of_bytes (Symbols STANDARD) symbols)
+            let whole : with_files [] (trial_files symbols)
             ≡ with_files [] (done ++ next ∷ []) ++ map item_for (rest ++ first.0) =
             ap (with_files []) all ∙ with_files-append [] (done ++ next ∷ []) (rest ++ first.0) in
             let le = subst (λ (l : List Item). end_of (with_files [] (done ++ next ∷ [])) ≤ end_of l) (sym whole)
@@ -268,10 +270,14 @@ module _ {D : Type 0} (disk : DiskOf D) (symbols : List ℕ) (d1 : D)
             → FillEnds disk symbols c d1 d'
         stopped_ends (Failed Disk) why kind = tt
         stopped_ends NoMemory why kind = λ told.
-            let w = why told in holds_front some.files come_first.0 come_first.1 w.done w.rest w.split w.durable
+            let w = why told in holds_front (placed_files some.files) come_first.0 come_first.1 (placed_files w.done)
+            (placed_files w.rest) (placed_split w.done w.rest w.split) w.durable
         stopped_ends (Refused (NotAShelf at)) why kind = λ told. absurd (why told)
         stopped_ends (Refused (Capacity needed most)) why kind = λ told.
-            let w = why told in absurd (all_fit w.done w.rest w.next w.split w.over)
+            let w = why told in absurd (all_fit (placed_files w.done) (placed_files w.rest) w.next.placed
+            (placed_split w.done (w.next ∷ w.rest) w.split)
+            (subst (λ (l : List Placed). trial_capacity < end_of (with_files [] l)) (placed-append w.done (w.next ∷ []))
+            w.over))
         stopped_ends _ why kind = absurd kind
 
         -- a sink that counts no fault
@@ -297,21 +303,21 @@ module _ {D : Type 0} (disk : DiskOf D) (symbols : List ℕ) (d1 : D)
               ends = stopped_ends cause
                   (λ told. (some.early.stops (OfItems trial_capacity []) [] (outlets d1 o) (begun told)).why) kind;
               got = λ told.
-                  got_front some.files come_first.0 come_first.1 told
+                  got_front (placed_files some.files) come_first.0 come_first.1 told
                   (some.early.keeps (OfItems trial_capacity []) [] (outlets d1 o) (begun told)).held.contents
                   (some.early.outside (loads.calls.told told));
               any_moment = λ told.
-                  got_moments some.files come_first.0 come_first.1 told
+                  got_moments (placed_files some.files) come_first.0 come_first.1 told
                   (some.early.stops (OfItems trial_capacity []) [] (outlets d1 o) (begun told)).any_moment
                   (some.early.moments (loads.calls.told told)
-                  (only_loaded some.files come_first.0 come_first.1 told));
+                  (only_loaded (placed_files some.files) come_first.0 come_first.1 told));
             };
             first = first;
           }
 
       -- all of them are shelved
       module _ (leeway : Leeway) (sums : ReceiveCounts) (shelf' : Shelf)
-          (all : ReadsAll (world_of source disk out) (reception (Symbols STANDARD) limit leeway) sums
+          (all : ReadsAll (world_of source disk out) (reception 0 (Symbols STANDARD) limit leeway) sums
           (shelf_in shelf (outside s d2 o)) (shelf_in shelf' (outside s' d' o')))
           (calm : Rose (source.faults s) (source.faults s') → ⊥) where
         split_all : symbols ≡ all.bytes ++ source.left s'
@@ -329,26 +335,26 @@ module _ {D : Type 0} (disk : DiskOf D) (symbols : List ℕ) (d1 : D)
         ended_so : (sums.totals.stop ≡ End) × (all.bytes ≡ symbols)
         ended_so = at_end sums.totals.stop all.ends.reason
 
-        pub line : sums_line sums ≡ receive_last (Symbols STANDARD) symbols End
-        line = last_line_is source (Symbols STANDARD) limit all.bytes s s' sums all.ends all.counts
-            ∙ ap (λ stop. receive_last (Symbols STANDARD) all.bytes stop) ended_so.0
-            ∙ ap (λ bytes. receive_last (Symbols STANDARD) bytes End) ended_so.1
+        pub line : sums_line sums ≡ receive_last 0 (Symbols STANDARD) symbols End
+        line = last_line_is source 0 (Symbols STANDARD) limit all.bytes s s' sums all.ends all.counts
+            ∙ ap (λ stop. receive_last 0 (Symbols STANDARD) all.bytes stop) ended_so.0
+            ∙ ap (λ bytes. receive_last 0 (Symbols STANDARD) bytes End) ended_so.1
 
         so_far : disk.tells d1
             → ShelvesSoFar (outlets_of disk out) (OfItems trial_capacity [])
-            (files_of_bytes (Symbols STANDARD) all.bytes) (outlets d1 o) (shelf_in shelf' (outlets d' o'))
+            (files_of_bytes 0 (Symbols STANDARD) all.bytes) (outlets d1 o) (shelf_in shelf' (outlets d' o'))
         so_far told = all.shelved.shelved (OfItems trial_capacity []) [] (outlets d1 o) (begun told)
 
         durable : disk.tells d1
-            → IsDurable disk trial_capacity (with_files [] (files_of_bytes (Symbols STANDARD) all.bytes)) d'
+            → IsDurable disk trial_capacity (with_files [] (trial_files all.bytes)) d'
         durable told =
             let still = (so_far told).settled.on_disk in record { stands = still.stands; durable = still.durable }
 
         abbrev all_files : List Placed
-        all_files = files_of_bytes (Symbols STANDARD) all.bytes
+        all_files = trial_files all.bytes
 
-        are_all : files_of_bytes (Symbols STANDARD) symbols ≡ all_files ++ []
-        are_all = ap (files_of_bytes (Symbols STANDARD)) (sym ended_so.1) ∙ sym (append-nil all_files)
+        are_all : trial_files symbols ≡ all_files ++ []
+        are_all = ap trial_files (sym ended_so.1) ∙ sym (append-nil all_files)
 
         pub finished : FillsDisk disk symbols Done d1 d'
         finished = record {
@@ -356,7 +362,7 @@ module _ {D : Type 0} (disk : DiskOf D) (symbols : List ℕ) (d1 : D)
           untold = λ t. loads.calls.untold (all.shelved.untold_by_disk t);
           ends = (
             λ told. subst (λ (l : List ℕ). IsDurable disk trial_capacity
-                (with_files [] (files_of_bytes (Symbols STANDARD) l)) d') ended_so.1 (durable told),
+                (with_files [] (trial_files l)) d') ended_so.1 (durable told),
             all.shelved.disk_count ∙ same_count,
           );
           got = λ told.
@@ -377,14 +383,14 @@ module _ {D : Type 0} (disk : DiskOf D) (symbols : List ℕ) (d1 : D)
 
       -- ---- for either answer
       pub stream_ends : (leeway : Leeway) (shelf' : Shelf) (answer : Result ReceiveCounts Cause)
-          → IfOk answer (λ sums. ReadsAll (world_of source disk out) (reception (Symbols STANDARD) limit leeway) sums
+          → IfOk answer (λ sums. ReadsAll (world_of source disk out) (reception 0 (Symbols STANDARD) limit leeway) sums
           (shelf_in shelf (outside s d2 o)) (shelf_in shelf' (outside s' d' o')))
-          → IfErr answer (λ cause. ReadsSome (world_of source disk out) (reception (Symbols STANDARD) limit leeway)
+          → IfErr answer (λ cause. ReadsSome (world_of source disk out) (reception 0 (Symbols STANDARD) limit leeway)
           cause (shelf_in shelf (outside s d2 o)) (outside s' d' o'))
           → (Rose (source.faults s) (source.faults s') → ⊥)
-          → end_of (with_files [] (files_of_bytes (Symbols STANDARD) symbols)) ≤ trial_capacity
+          → end_of (with_files [] (trial_files symbols)) ≤ trial_capacity
           → ((x : O) → out.faults x ≡ 0)
-          → IfOk answer (λ sums. sums_line sums ≡ receive_last (Symbols STANDARD) symbols End)
+          → IfOk answer (λ sums. sums_line sums ≡ receive_last 0 (Symbols STANDARD) symbols End)
           × OnOk answer (FillsDisk disk symbols Done d1 d')
           × IfErr answer (λ cause. StopsFilling disk symbols cause d1 d')
       stream_ends leeway shelf' (Ok sums) all some calm fit sure =

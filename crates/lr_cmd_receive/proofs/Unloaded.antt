@@ -30,12 +30,13 @@ use Rattle.lr_forms.specs.declared.forms.Input.{Input}
 use Rattle.lr_causes.specs.Counts.{CountsTell}
 use Rattle.lr_cmd_receive.specs.First.{SourceBesides}
 use Rattle.lr_cmd_receive.specs.Inputs.{files_of_bytes}
+use Rattle.lr_cmd_receive.specs.Noted.{NotedFile, placed_files}
 use Rattle.lr_shelf.specs.InitialShelves.{InitialShelf, OfItems, OfWay, HoldsStill, IsSettledOn, StandsWith}
 use Rattle.lr_shelf.specs.InitialShelves.{LeavesPrefixes}
 use Rattle.lr_cmd_receive.specs.Onto.{ChangesFor, ChangesImagesFor}
 use Rattle.lr_cmd_receive.specs.Shelved.{ShelvesSoFar, shelf_in}
 use Rattle.lr_cmd_receive.specs.Receive.{Ends, Receives, IsWorkDone, EndsWork, IsUntouched}
-use Rattle.lr_cmd_receive.specs.Receive.{PutsNoFileOff, ReceiveRun, run_onto, taken_by, receive_query}
+use Rattle.lr_cmd_receive.specs.Receive.{PutsNoFileOff, ReceiveRun, intake, run_onto, taken_by, receive_query}
 use Rattle.lr_cmd_receive.specs.Reception.{EndsRun, reception}
 use Rattle.lr_cmd_receive.proofs.Headline.{receives}
 use Rattle.lr_cmd_receive.proofs.ReceiveEnding.{got_none, loaded}
@@ -50,7 +51,8 @@ use Rattle.lr_cmd_receive.proofs.Loading.{run_kind, full_reads, nothing_waits}
 
 -- ---- the shelf was to be loaded
 
-module _ {S D O : Type 0} (world : World S D O) (input : Input) (workers limit : ℕ) (w : Outside S D O) (d1 : D)
+module _ {S D O : Type 0} (world : World S D O) (mend : ℕ) (input : Input) (workers limit : ℕ) (w : Outside S D O)
+    (d1 : D)
     (result : Result Shelf ShelfError) (loads : Loads world.disk w.disk d1 result) where
   -- the disk was only read
   abbrev read_only : Outside S D O
@@ -74,22 +76,23 @@ module _ {S D O : Type 0} (world : World S D O) (input : Input) (workers limit :
     loading : EachImageSince world.disk w.disk d1 (StandsWith initial [])
     loading = still_left world.disk initial w.disk d1 (loads.only_read.unwritten told) stands only
 
-    none : (cause : Cause) → Ends world (run_onto initial (input_read input limit [])) cause w read_only
+    none : (cause : Cause) → Ends world (run_onto initial (intake mend (input_read input limit []))) cause w read_only
         → CountsTell SourceBesides cause (counts_in world w) (counts_in world read_only)
-        → Receives world (run_onto initial (input_read input limit [])) cause w read_only
+        → Receives world (run_onto initial (intake mend (input_read input limit []))) cause w read_only
     none cause ends first =
-        receives world input initial limit [] w read_only cause
-        (subst (λ (l : List Placed). LeavesPrefixes world.disk initial l w.disk d1) (sym (no_bytes input))
+        receives world mend input initial limit [] w read_only cause
+        (subst (λ (l : List NotedFile). LeavesPrefixes world.disk initial (placed_files l) w.disk d1)
+        (sym (no_bytes mend input))
         (weaker world.disk.moment world.disk.left_since w.disk d1 _ _ (front_none initial) loading))
         ends first
 
     nothing : (e : ShelfError) → result ≡ Err e → IsLoadRefusal world.disk w.disk e
         → ((at : ℕ) → IsNoShelfAt (world.disk.contents w.disk) at → ⊥)
-        → Receives world (run_onto initial (input_read input limit [])) (cause_of e) w read_only
+        → Receives world (run_onto initial (intake mend (input_read input limit []))) (cause_of e) w read_only
     nothing Disk' is refusal shelf = none (Failed Disk) (record {
       done = [];
       rest = [];
-      split = no_bytes input;
+      split = no_bytes mend input;
       contents = inl still.stands;
       images = λ c image. inl (subst (StandsWith initial []) (sym (still.durable c image)) still.stands);
       got = got_none world.out initial w.out;
@@ -98,7 +101,7 @@ module _ {S D O : Type 0} (world : World S D O) (input : Input) (workers limit :
     nothing NoMemory' is refusal shelf = none NoMemory (record {
       done = [];
       rest = [];
-      split = no_bytes input;
+      split = no_bytes mend input;
       durable = still;
       got = got_none world.out initial w.out;
     }) (first_of NoMemory' is refusal)
@@ -126,7 +129,7 @@ module _ {S D O : Type 0} (world : World S D O) (input : Input) (workers limit :
 
   -- it wasn't
   pub not_loaded : (e : ShelfError) → result ≡ Err e → IsLoadRefusal world.disk w.disk e
-      → ReceiveRun world (receive_query input workers limit) (cause_of e) w read_only
+      → ReceiveRun world (receive_query mend input workers limit) (cause_of e) w read_only
   not_loaded e is refusal = record {
     causes = load_cause world.disk w.disk e refusal;
     first = first_of e is refusal;
@@ -148,8 +151,8 @@ module _ {S D O : Type 0} (world : World S D O) (input : Input) (workers limit :
         only e is refusal
         (λ at no. (has_one_way (world.disk.contents w.disk)).none way at way_is no);
     keeps_up = λ initial told stands only.
-        none_put_off world input workers initial [] w read_only w.disk
-        (nothing_waits world initial input (leeway_for input workers) w w d1
+        none_put_off world mend input workers initial [] w read_only w.disk
+        (nothing_waits world initial mend input (leeway_for input workers) w w d1
         (still initial told stands (only refl))) (inl (refl, refl));
     refused = λ at named. (refused e at refusal named, only_read);
     broken = λ at told no. (ended_before e at (may_refuse at result e is (loads.broken at told no)), only_read);
@@ -161,16 +164,17 @@ module _ {S D O : Type 0} (world : World S D O) (input : Input) (workers limit :
     unasked = λ none failed. refl;
     ended = λ done. absurd (load_work world.disk w.disk e refusal done);
     outside = λ way told is.
-        no_change way (files_of_bytes input []) (world.disk.contents w.disk) (world.disk.contents d1)
+        no_change way (placed_files (files_of_bytes mend input [])) (world.disk.contents w.disk)
+        (world.disk.contents d1)
         (loads.only_read.unwritten told).contents;
-    outside_any_moment = λ way told is only. loading_images way (files_of_bytes input []) told only;
+    outside_any_moment = λ way told is only. loading_images way (placed_files (files_of_bytes mend input [])) told only;
   }
 
   -- it was
   module _ (only_now : (d : D) (c : List ℕ) → world.disk.tells d → world.disk.left_since d (world.disk.moment d) c
       → world.disk.may_leave d c)
       (shelf : Shelf) (is : result ≡ Ok shelf) (w' : Outside S D O) (cause : Cause)
-      (run : EndsRun world (reception input limit (leeway_for input workers)) cause (shelf_in shelf read_only) w')
+      (run : EndsRun world (reception mend input limit (leeway_for input workers)) cause (shelf_in shelf read_only) w')
     where
       if_ok : (P : Shelf → Type 0) → IfOk result P → P shelf
       if_ok P holds = subst (λ (r : Result Shelf ShelfError). IfOk r P) is holds
@@ -198,16 +202,17 @@ module _ {S D O : Type 0} (world : World S D O) (input : Input) (workers limit :
           → StandsWith initial [] (world.disk.contents w.disk)
           → NothingPending world.disk w.disk
           → IsSettledOn initial [] world.disk shelf d1
-          → Receives world (run_onto initial (input_read input limit run.bytes)) cause w w'
+          → Receives world (run_onto initial (intake mend (input_read input limit run.bytes))) cause w w'
       onto initial told stands only settled =
           let begun = loaded (world_outlets world) initial (outlets_in w) d1 shelf settled
           (loading initial told stands only) same_count in
           let all = run.ends initial (outlets_in w) begun in
-          receives world input initial limit run.bytes w w' cause all.0 all.1 first_run
+          receives world mend input initial limit run.bytes w w' cause all.0 all.1 first_run
 
       onto_shelf : (capacity : ℕ) (items : List Item) → world.disk.tells w.disk
           → IsDurable world.disk capacity items w.disk
-          → Receives world (run_onto (OfItems capacity items) (input_read input limit run.bytes)) cause w w'
+          → Receives world (run_onto (OfItems capacity items) (intake mend
+          (input_read input limit run.bytes))) cause w w'
       onto_shelf capacity items told durable =
           onto (OfItems capacity items) told (begun_items capacity items (world.disk.contents w.disk) durable.stands)
           durable.durable
@@ -216,7 +221,8 @@ module _ {S D O : Type 0} (world : World S D O) (input : Input) (workers limit :
 
       onto_way : (way : Way) → world.disk.tells w.disk → IsWay (world.disk.contents w.disk) way
           → NothingPending world.disk w.disk
-          → Receives world (run_onto (OfWay way (world.disk.contents w.disk)) (input_read input limit run.bytes)) cause
+          → Receives world (run_onto (OfWay way (world.disk.contents w.disk)) (intake mend
+          (input_read input limit run.bytes))) cause
           w w'
       onto_way way told way_is only =
           let begins = begun_way way (world.disk.contents w.disk) way_is in
@@ -251,8 +257,8 @@ module _ {S D O : Type 0} (world : World S D O) (input : Input) (workers limit :
       }
 
       still_after : (initial : InitialShelf) (c : Cause) (before : Outside S D O) → IsWorkDone c
-          → Ends world (run_onto initial (input_read input limit run.bytes)) c before w'
-          → HoldsStill initial (files_of_bytes input run.bytes) world.disk w'.disk
+          → Ends world (run_onto initial (intake mend (input_read input limit run.bytes))) c before w'
+          → HoldsStill initial (placed_files (files_of_bytes mend input run.bytes)) world.disk w'.disk
       still_after initial Done before done (inl ends) = ends.durable
       still_after initial Done before done (inr ends) = ends.durable
       still_after initial (Failed Source) before done ends = ends.durable
@@ -271,12 +277,12 @@ module _ {S D O : Type 0} (world : World S D O) (input : Input) (workers limit :
 
       keeps_up_run : (initial : InitialShelf) → world.disk.tells w.disk
           → StandsWith initial [] (world.disk.contents w.disk)
-          → PutsNoFileOff world (taken_by input workers run.bytes) initial w w'
+          → PutsNoFileOff world (taken_by mend input workers run.bytes) initial w w'
       keeps_up_run initial told stands =
           let all = run.ends initial (outlets d1 w.out) (begun_after initial told stands) in
-          none_put_off world input workers initial run.bytes w w' d1 all.2 all.3
+          none_put_off world mend input workers initial run.bytes w w' d1 all.2 all.3
 
-      ended_run : IsWorkDone cause → EndsWork world (input_read input limit run.bytes) cause w w'
+      ended_run : IsWorkDone cause → EndsWork world (intake mend (input_read input limit run.bytes)) cause w w'
       ended_run done =
           let there = run.ended done in
           record {
@@ -293,10 +299,10 @@ module _ {S D O : Type 0} (world : World S D O) (input : Input) (workers limit :
           }
 
       changes_run : (way : Way) → world.disk.tells w.disk → IsWay (world.disk.contents w.disk) way
-          → ChangesFor way (files_of_bytes input run.bytes) (world.disk.contents w.disk)
+          → ChangesFor way (placed_files (files_of_bytes mend input run.bytes)) (world.disk.contents w.disk)
           (world.disk.contents w'.disk)
       changes_run way told has =
-          let files = files_of_bytes input run.bytes in
+          let files = placed_files (files_of_bytes mend input run.bytes) in
           subst (λ (x : Way). ChangesFor x files (world.disk.contents w.disk) (world.disk.contents w'.disk))
           ((has_one_way (world.disk.contents w.disk)).way (kept_by shelf).way way (is_way told) has)
           (subst (λ (l : List ℕ). ChangesFor (kept_by shelf).way files l (world.disk.contents w'.disk))
@@ -304,9 +310,9 @@ module _ {S D O : Type 0} (world : World S D O) (input : Input) (workers limit :
 
       images_run : (way : Way) → world.disk.tells w.disk → IsWay (world.disk.contents w.disk) way
           → NothingPending world.disk w.disk
-          → ChangesImagesFor world.disk way (files_of_bytes input run.bytes) w.disk w'.disk
+          → ChangesImagesFor world.disk way (placed_files (files_of_bytes mend input run.bytes)) w.disk w'.disk
       images_run way told has only =
-          let files = files_of_bytes input run.bytes in
+          let files = placed_files (files_of_bytes mend input run.bytes) in
           let read = loads.only_read.unwritten told in
           let old = world.disk.contents w.disk in
           let loading = loading_images way files told only in
@@ -322,7 +328,7 @@ module _ {S D O : Type 0} (world : World S D O) (input : Input) (workers limit :
           (subst (λ (l : List ℕ). ChangesFor (kept_by shelf).way files l c) read.contents changes)) then))
           (run.moments (loads.calls.told told) (λ c image. only c (read.images c image) ∙ sym read.contents))
 
-      pub loaded_run : ReceiveRun world (receive_query input workers limit) cause w w'
+      pub loaded_run : ReceiveRun world (receive_query mend input workers limit) cause w w'
       loaded_run = record {
         causes = run_cause cause run.kind;
         first = first_run;
@@ -343,7 +349,7 @@ module _ {S D O : Type 0} (world : World S D O) (input : Input) (workers limit :
             record { way = (kept_by shelf).way; is_way = is_way told; full = run.over.full needed most named };
         nothing_fits = λ needed most named tells empty.
             let full = run.over.full needed most named in
-            full_reads world.source input limit run.bytes w.source w'.source run.read tells
+            full_reads world.source mend input limit run.bytes w.source w'.source run.read tells
             empty full.done full.next full.rest full.split;
         room = λ done told. record { way = (kept_by shelf).way; is_way = is_way told; room = run.over.room done };
         only_read = λ none.

@@ -3,6 +3,7 @@ pub mod First
 pub mod Init
 pub mod Inputs
 pub mod Made
+pub mod Noted
 pub mod Onto
 pub mod Receive
 pub mod Reception

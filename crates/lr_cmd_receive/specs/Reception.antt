@@ -6,11 +6,9 @@ use Rattle.lr_bits.specs.declared.placed.Placed.{Placed}
 use Rattle.lr_io.specs.declared.sink.Sink.{Ghosts as SinkOf}
 use Rattle.lr_disk.specs.Pending.{NothingPending}
 use Rattle.lr_conv.specs.declared.line.LineCode.{LineCode}
-use Rattle.lr_layers.specs.Layers.{numbers_of}
-use Rattle.lr_layers.specs.Origins.{placed_of_outcomes}
+use Rattle.lr_layers.specs.Layers.{mended_numbers_of}
 use Rattle.lr_layers.specs.Standing.{numbers}
 use Rattle.lr_shelf.specs.Kept.{kept_by}
-use Rattle.lr_shelf.specs.declared.shelf.Shelf.{Shelf}
 use Rattle.lr_causes.specs.declared.cause.Cause.{Cause}
 use Rattle.lr_causes.specs.declared.cause.Cause.TheVariants.{Failed, Refused}
 use Rattle.lr_causes.specs.declared.cause.Party.TheVariants.{Disk}
@@ -22,6 +20,7 @@ use Rattle.lr_forms.specs.declared.forms.Input.TheVariants.{Symbols}
 use Rattle.lr_reading.specs.Inputs.{outcomes_of_bytes}
 use Rattle.lr_reading.specs.Runs.{ReadsInput, input_read}
 use Rattle.lr_cmd_receive.specs.Inputs.{files_of_bytes}
+use Rattle.lr_cmd_receive.specs.Noted.{NotedFile, noted_of_outcomes, placed_files}
 use Rattle.lr_causes.specs.Causes.{IsEarlier, cause_at}
 use Rattle.lr_causes.specs.Outside.{Outlets, OutletsOf, Outside, World, counts_in, outlets_in, outside, world_outlets}
 use Rattle.lr_causes.specs.Counts.{CountsTell}
@@ -33,7 +32,7 @@ use Rattle.lr_reading.specs.Readers.{HaveCome, Leeway, MayWait}
 use Rattle.lr_reading.specs.Reading.{IsRead, WhenLastAsked}
 use Rattle.lr_causes.specs.Puts.{Puts, PutStops}
 use Rattle.lr_cmd_receive.specs.Receive.{counts_line, AreInTime, DoesWork, IsWorkDone, Ends}
-use Rattle.lr_cmd_receive.specs.Receive.{work_done, run_onto}
+use Rattle.lr_cmd_receive.specs.Receive.{intake, work_done, run_onto}
 use Rattle.lr_cmd_receive.specs.Shelved.{HasShelved, MayStop, ShelfIn, ShelvesSoFar, StopsShelving, shelf_in, way_in}
 use Rattle.lr_cmd_receive.specs.Shelving.{AreAcknowledged, files_onto}
 
@@ -60,23 +59,30 @@ pub record EndsOver {D O : Type 0} (cause : Cause) (files : List Placed) (old : 
   pub silent : files ≡ [] → IsEarlier cause → w'.out ≡ old.lent.out
   pub kind : files ≡ [] → cause ≡ Failed Disk → ⊥
 
--- how an input is read: its form, how many bytes of it are taken at most, and how many frames may wait
+-- how an input is read: how many fillers an image may have, its form, how many bytes of it are taken at most, and how
+-- many frames may wait
 pub record Reception : Type 0 where
+  pub mend : ℕ
   pub input : Input
   pub limit : ℕ
   pub leeway : Leeway
 
-abbrev pub reception : Input → ℕ → Leeway → Reception
-reception input limit leeway = record { input = input; limit = limit; leeway = leeway }
+abbrev pub reception : ℕ → Input → ℕ → Leeway → Reception
+reception mend input limit leeway = record { mend = mend; input = input; limit = limit; leeway = leeway }
 
--- the bytes that were taken of an input, and how many frames of them may wait
+-- the files of these bytes of it
+abbrev pub files_in : Reception → List ℕ → List NotedFile
+files_in how bytes = files_of_bytes how.mend how.input bytes
+
+-- the bytes that were taken of an input, how many frames of them may wait, and how many fillers an image may have
 pub record TakenBytes : Type 0 where
+  pub mend : ℕ
   pub input : Input
   pub leeway : Leeway
   pub bytes : List ℕ
 
-abbrev pub taken_bytes : Input → Leeway → List ℕ → TakenBytes
-taken_bytes input leeway bytes = record { input = input; leeway = leeway; bytes = bytes }
+abbrev pub taken_bytes : ℕ → Input → Leeway → List ℕ → TakenBytes
+taken_bytes mend input leeway bytes = record { mend = mend; input = input; leeway = leeway; bytes = bytes }
 
 -- of the outcomes of these bytes all but the last few are worked through, and so are all after which so many symbols or
 -- bytes came: their files are acknowledged
@@ -87,15 +93,16 @@ pub record FewWait {D O : Type 0} (world : OutletsOf D O) (initial : InitialShel
   pub split : outcomes_of_bytes taken.input taken.bytes ≡ worked ++ late
   pub few : length late ≤ taken.leeway.at_end
   pub close : (count : ℕ) → HaveCome taken.input taken.leeway.ahead taken.bytes count → count ≤ length worked
-  pub acknowledged : AreAcknowledged world (files_onto initial (files_of_bytes taken.input taken.bytes))
-      (placed_of_outcomes worked) w w'
+  pub acknowledged : AreAcknowledged world (files_onto initial (files_of_bytes taken.mend taken.input taken.bytes))
+      (noted_of_outcomes taken.mend worked) w w'
 
 -- as the source is asked, which gave these bytes in these pieces: the files of the outcomes that count, but for the few
 -- that may wait, are the first ones of these
-abbrev pub FilesComeInTime : Input → Leeway → List Placed → List ℕ → List (List ℕ) → Type 0
-FilesComeInTime input leeway files given pieces =
+abbrev pub FilesComeInTime : ℕ → Input → Leeway → List NotedFile → List ℕ → List (List ℕ) → Type 0
+FilesComeInTime mend input leeway files given pieces =
     (count few : ℕ) → MayWait input leeway given pieces few → HaveCome input leeway.tail given (count + few)
-    → (later : List Placed) × (files ≡ placed_of_outcomes (take count (outcomes_of_bytes input given)) ++ later)
+    → (later : List NotedFile)
+    × (files ≡ noted_of_outcomes mend (take count (outcomes_of_bytes input given)) ++ later)
 
 module _ {S D O : Type 0} (world : World S D O) (how : Reception) where
   -- the input ended, and all its files are shelved, whatever shelf they came onto
@@ -103,35 +110,34 @@ module _ {S D O : Type 0} (world : World S D O) (how : Reception) where
     pub bytes : List ℕ
     pub ends : ReadsInput world.source (input_read how.input how.limit bytes) sums.totals old.lent.source
         new.lent.source
-    pub counts : numbers sums.counts ≡ numbers_of (outcomes_of_bytes how.input bytes)
-    pub shelved : HasShelved (world_outlets world) (files_of_bytes how.input bytes)
+    pub counts : numbers sums.counts ≡ mended_numbers_of how.mend (outcomes_of_bytes how.input bytes)
+    pub shelved : HasShelved (world_outlets world) (files_in how bytes)
         (shelf_in old.shelf (outlets_in old.lent)) (shelf_in new.shelf (outlets_in new.lent))
     pub in_time : WhenLastAsked world.source
-        (FilesComeInTime how.input how.leeway (files_of_bytes how.input bytes)) bytes old.lent.source new.lent.source
+        (FilesComeInTime how.mend how.input how.leeway (files_in how bytes)) bytes old.lent.source new.lent.source
 
   -- shelving stopped among the files of these bytes
   pub record ReadsSome (cause : Cause) (old : ShelfIn (Outside S D O)) (w' : Outside S D O) : Type 0 where
     pub bytes : List ℕ
     pub read : IsRead world.source how.limit bytes old.lent.source w'.source
-    pub stopped : StopsShelving (world_outlets world) cause (files_of_bytes how.input bytes)
+    pub stopped : StopsShelving (world_outlets world) cause (files_in how bytes)
         (shelf_in old.shelf (outlets_in old.lent)) (outlets_in w')
     -- more sharply: among these files, up to those of the last outcome
-    pub files : List Placed
+    pub files : List NotedFile
     pub early : StopsShelving (world_outlets world) cause files (shelf_in old.shelf (outlets_in old.lent))
         (outlets_in w')
     -- of symbols they are the first ones of all that the source gives, where it had not failed nor reached the limit
     pub first : (line : LineCode) → how.input ≡ Symbols line → world.source.tells old.lent.source
         → length bytes < how.limit
         → (Rose (world.source.faults old.lent.source) (world.source.faults w'.source) → ⊥)
-        → (rest : List Placed)
-        × (files_of_bytes how.input (bytes ++ world.source.left w'.source) ≡ files ++ rest)
+        → (rest : List NotedFile) × (files_in how (bytes ++ world.source.left w'.source) ≡ files ++ rest)
     pub timely : (initial : InitialShelf) (before : Outlets D O)
         → ShelvesSoFar (world_outlets world) initial [] before (shelf_in old.shelf (outlets_in old.lent))
-        → FewWait (world_outlets world) initial (taken_bytes how.input how.leeway bytes) before (outlets_in w')
+        → FewWait (world_outlets world) initial (taken_bytes how.mend how.input how.leeway bytes) before (outlets_in w')
     pub in_time : (initial : InitialShelf) (before : Outlets D O)
         → ShelvesSoFar (world_outlets world) initial [] before (shelf_in old.shelf (outlets_in old.lent))
         → WhenLastAsked world.source (AreInTime (world_outlets world)
-        (files_onto initial (files_of_bytes how.input bytes)) how.input how.leeway before (outlets_in w')) bytes
+        (files_onto initial (files_in how bytes)) how.mend how.input how.leeway before (outlets_in w')) bytes
         old.lent.source w'.source
 
   -- how a run ends that took some bytes, whatever shelf it was onto, and what a crash may leave of it
@@ -147,21 +153,22 @@ module _ {S D O : Type 0} (world : World S D O) (how : Reception) where
         → CountsTell SourceBesides cause (counts_in world old.lent) (counts_in world w')
     pub ends : (initial : InitialShelf) (before : Outlets D O)
         → ShelvesSoFar (world_outlets world) initial [] before (shelf_in old.shelf (outlets_in old.lent))
-        → LeavesPrefixes world.disk initial (files_of_bytes how.input bytes) before.disk w'.disk
-        × Ends world (run_onto initial (input_read how.input how.limit bytes)) cause
+        → LeavesPrefixes world.disk initial (placed_files (files_in how bytes)) before.disk w'.disk
+        × Ends world (run_onto initial (intake how.mend (input_read how.input how.limit bytes))) cause
         (outside old.lent.source before.disk before.out) w'
-        × FewWait (world_outlets world) initial (taken_bytes how.input how.leeway bytes) before (outlets_in w')
+        × FewWait (world_outlets world) initial (taken_bytes how.mend how.input how.leeway bytes) before (outlets_in w')
         × WhenLastAsked world.source (AreInTime (world_outlets world)
-        (files_onto initial (files_of_bytes how.input bytes)) how.input how.leeway before (outlets_in w')) bytes
+        (files_onto initial (files_in how bytes)) how.mend how.input how.leeway before (outlets_in w')) bytes
         old.lent.source w'.source
-    pub over : EndsOver cause (files_of_bytes how.input bytes) (shelf_in old.shelf (outlets_in old.lent))
+    pub over : EndsOver cause (placed_files (files_in how bytes)) (shelf_in old.shelf (outlets_in old.lent))
         (outlets_in w')
     pub ended : IsWorkDone cause → (stop : Stop) × (cause ≡ cause_at stop)
-        × DoesWork world (work_done (input_read how.input how.limit bytes) (length (way_in old).entries) stop)
+        × DoesWork world (work_done (intake how.mend (input_read how.input how.limit bytes)) (length
+        (way_in old).entries) stop)
         old.lent w'
     pub outside : world.disk.tells old.lent.disk
-        → ChangesFor (way_in old) (files_of_bytes how.input bytes) (world.disk.contents old.lent.disk)
+        → ChangesFor (way_in old) (placed_files (files_in how bytes)) (world.disk.contents old.lent.disk)
         (world.disk.contents w'.disk)
     pub moments : world.disk.tells old.lent.disk → NothingPending world.disk old.lent.disk
         → (w'.disk ≡ old.lent.disk)
-        ⊎ ChangesImagesFor world.disk (way_in old) (files_of_bytes how.input bytes) old.lent.disk w'.disk
+        ⊎ ChangesImagesFor world.disk (way_in old) (placed_files (files_in how bytes)) old.lent.disk w'.disk

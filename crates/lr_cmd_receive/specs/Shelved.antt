@@ -3,7 +3,6 @@ use Rattle.std.specs.Prelude.{◌≡◌, ◌⊎◌, ◌+◌, ◌-◌, ℕ, false
 use Rattle.lr_bits.specs.declared.outcome.Outcome.{Outcome}
 use Rattle.lr_bits.specs.declared.placed.Placed.{Placed}
 use Rattle.lr_disk.specs.Pending.{NothingPending}
-use Rattle.lr_layers.specs.Origins.{placed_of_outcomes}
 use Rattle.lr_shelf_format.specs.Way.{Way}
 use Rattle.lr_shelf.specs.Kept.{kept_by}
 use Rattle.lr_shelf.specs.declared.shelf.Shelf.{Shelf}
@@ -15,6 +14,7 @@ use Rattle.lr_causes.specs.Outside.{Outlets, OutletsOf, outlet_counts}
 use Rattle.lr_causes.specs.Puts.{Puts}
 use Rattle.lr_causes.specs.Counts.{CountsTell}
 use Rattle.lr_cmd_receive.specs.First.{SourceBesides}
+use Rattle.lr_cmd_receive.specs.Noted.{NotedFile, noted_of_outcomes, placed_files}
 use Rattle.lr_shelf.specs.Adding.{StaysOutside}
 use Rattle.lr_shelf.specs.InitialShelves.{InitialShelf, IsSettledOn, LeavesPrefixes, next_number}
 use Rattle.lr_shelf.specs.Prefixes.{HasRoom, end_with}
@@ -48,18 +48,19 @@ shelf_in shelf w = record { shelf = shelf; lent = w }
 abbrev pub way_in : {W : Type 0} → ShelfIn W → Way
 way_in at = (kept_by at.shelf).way
 
--- outcomes, and the one after them
+-- outcomes, and the one after them, where an image may have so many fillers
 pub record OneMore : Type 0 where
+  pub mend : ℕ
   pub earlier : List Outcome
   pub outcome : Outcome
 
-abbrev pub one_more : List Outcome → Outcome → OneMore
-one_more earlier outcome = record { earlier = earlier; outcome = outcome }
+abbrev pub one_more : ℕ → List Outcome → Outcome → OneMore
+one_more mend earlier outcome = record { mend = mend; earlier = earlier; outcome = outcome }
 
 -- the last one adds these files
-abbrev pub AddsFiles : OneMore → List Placed → Type 0
-AddsFiles one files =
-    placed_of_outcomes (one.earlier ++ one.outcome ∷ []) ≡ placed_of_outcomes one.earlier ++ files
+abbrev pub AddsFiles : OneMore → List NotedFile → Type 0
+AddsFiles one files = noted_of_outcomes one.mend (one.earlier ++ one.outcome ∷ [])
+    ≡ noted_of_outcomes one.mend one.earlier ++ files
 
 -- over every disk: these files were shelved, and the shelf in memory ends after them
 pub record Grows {D O : Type 0} (done : List Placed) (old new : ShelfIn (Outlets D O)) : Type 0 where
@@ -77,15 +78,15 @@ pub record GrowsNoMore {D O : Type 0} (cause : Cause) (files : List Placed) (old
 
 module _ {D O : Type 0} (world : OutletsOf D O) where
   -- these files are shelved on this initial shelf and their lines put; nothing failed
-  pub record ShelvesSoFar (initial : InitialShelf) (done : List Placed) (w : Outlets D O)
+  pub record ShelvesSoFar (initial : InitialShelf) (done : List NotedFile) (w : Outlets D O)
       (now : ShelfIn (Outlets D O)) : Type 0 where
-    pub settled : IsSettledOn initial done world.disk now.shelf now.lent.disk
-    pub any_moment : LeavesPrefixes world.disk initial done w.disk now.lent.disk
+    pub settled : IsSettledOn initial (placed_files done) world.disk now.shelf now.lent.disk
+    pub any_moment : LeavesPrefixes world.disk initial (placed_files done) w.disk now.lent.disk
     pub put : Puts world.out (shelved_lines (next_number initial) done) w.out now.lent.out
     pub disk_count : world.disk.faults now.lent.disk ≡ world.disk.faults w.disk
 
   -- these files were shelved, and their lines put; nothing failed
-  pub record HasShelved (files : List Placed) (old new : ShelfIn (Outlets D O)) : Type 0 where
+  pub record HasShelved (files : List NotedFile) (old new : ShelfIn (Outlets D O)) : Type 0 where
     pub told_by_disk : world.disk.tells old.lent.disk → world.disk.tells new.lent.disk
     pub untold_by_disk : world.disk.tells new.lent.disk → world.disk.tells old.lent.disk
     pub told_by_out : world.out.tells old.lent.out → world.out.tells new.lent.out
@@ -94,23 +95,23 @@ module _ {D O : Type 0} (world : OutletsOf D O) where
     pub disk_count : world.disk.faults new.lent.disk ≡ world.disk.faults old.lent.disk
     pub out_count : world.out.faults new.lent.out ≡ world.out.faults old.lent.out
     -- after others, on any initial shelf
-    pub shelved : (initial : InitialShelf) (done : List Placed) (before : Outlets D O)
+    pub shelved : (initial : InitialShelf) (done : List NotedFile) (before : Outlets D O)
         → ShelvesSoFar initial done before old
         → ShelvesSoFar initial (done ++ files) before new
     -- over every disk
-    pub grown : Grows files old new
+    pub grown : Grows (placed_files files) old new
     pub count : length (way_in new).entries ≡ length (way_in old).entries + length files
     pub put : GotText world.out (shelved_lines (length (way_in old).entries) files) old.lent.out new.lent.out
     pub outside : world.disk.tells old.lent.disk
-        → StaysOutside ((way_in old).end - 1) (end_with (way_in old).end files)
+        → StaysOutside ((way_in old).end - 1) (end_with (way_in old).end (placed_files files))
         (world.disk.contents old.lent.disk) (world.disk.contents new.lent.disk)
     pub moments : world.disk.tells old.lent.disk → NothingPending world.disk old.lent.disk
         → NothingPending world.disk new.lent.disk
         × ((new.lent.disk ≡ old.lent.disk)
-        ⊎ ChangesImagesFor world.disk (way_in old) files old.lent.disk new.lent.disk)
+        ⊎ ChangesImagesFor world.disk (way_in old) (placed_files files) old.lent.disk new.lent.disk)
 
   -- they were not all
-  pub record StopsShelving (cause : Cause) (files : List Placed) (old : ShelfIn (Outlets D O)) (w' : Outlets D O)
+  pub record StopsShelving (cause : Cause) (files : List NotedFile) (old : ShelfIn (Outlets D O)) (w' : Outlets D O)
       : Type 0 where
     pub kind : MayStop cause
     pub told_by_disk : world.disk.tells old.lent.disk → world.disk.tells w'.disk
@@ -120,29 +121,30 @@ module _ {D O : Type 0} (world : OutletsOf D O) where
     pub first : (kept_by old.shelf).failed ≡ false
         → CountsTell SourceBesides cause (outlet_counts world old.lent) (outlet_counts world w')
     -- after others, on any initial shelf
-    pub stops : (initial : InitialShelf) (done : List Placed) (before : Outlets D O)
+    pub stops : (initial : InitialShelf) (done : List NotedFile) (before : Outlets D O)
         → ShelvesSoFar initial done before old
         → Stops world (files_onto initial (done ++ files)) cause before w'
     -- those stay acknowledged
-    pub keeps : (initial : InitialShelf) (done : List Placed) (before : Outlets D O)
+    pub keeps : (initial : InitialShelf) (done : List NotedFile) (before : Outlets D O)
         → ShelvesSoFar initial done before old
         → AreAcknowledged world (files_onto initial (done ++ files)) done before w'
     -- over every disk
-    pub grown : GrowsNoMore cause files old w'
+    pub grown : GrowsNoMore cause (placed_files files) old w'
     pub outside : world.disk.tells old.lent.disk
-        → ChangesFor (way_in old) files (world.disk.contents old.lent.disk) (world.disk.contents w'.disk)
+        → ChangesFor (way_in old) (placed_files files) (world.disk.contents old.lent.disk) (world.disk.contents w'.disk)
     pub moments : world.disk.tells old.lent.disk → NothingPending world.disk old.lent.disk
-        → (w'.disk ≡ old.lent.disk) ⊎ ChangesImagesFor world.disk (way_in old) files old.lent.disk w'.disk
+        → (w'.disk ≡ old.lent.disk) ⊎ ChangesImagesFor world.disk (way_in old)
+        (placed_files files) old.lent.disk w'.disk
 
   -- the files that one outcome more adds were shelved
   pub record Gains (one : OneMore) (old new : ShelfIn (Outlets D O)) : Type 0 where
-    pub more : List Placed
+    pub more : List NotedFile
     pub files : AddsFiles one more
     pub shelved : HasShelved more old new
 
   -- they were not all
   pub record GainsNoMore (cause : Cause) (one : OneMore) (old : ShelfIn (Outlets D O)) (w' : Outlets D O) : Type 0
     where
-      pub more : List Placed
+      pub more : List NotedFile
       pub files : AddsFiles one more
       pub stopped : StopsShelving cause more old w'

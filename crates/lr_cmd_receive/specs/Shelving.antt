@@ -1,6 +1,7 @@
 -- Files that come onto a shelf, one after another.
-use Rattle.std.specs.Prelude.{◌≡◌, ◌⊎◌, ◌<◌, ◌+◌, ℕ, List, [], ◌∷◌, ◌++◌, length}
-use Rattle.lr_bits.specs.declared.placed.Placed.{Placed}
+use Rattle.std.specs.Prelude.{◌≡◌, ◌⊎◌, ◌<◌, ◌+◌, ℕ, Option, Some, None, List, [], ◌∷◌, ◌++◌, length, codes, decimal}
+use Rattle.std.specs.List.{concat}
+use Rattle.lr_bits.specs.File.{File, bytes_of, counter_of}
 use Rattle.lr_io.specs.declared.sink.Sink.{Ghosts as SinkOf}
 use Rattle.lr_io.specs.Pieces.{PutsPart}
 use Rattle.lr_catalog.specs.Files.{shelved_line}
@@ -13,18 +14,33 @@ use Rattle.lr_causes.specs.Outside.{Outlets, OutletsOf}
 use Rattle.lr_shelf.specs.InitialShelves.{InitialShelf, HoldsPrefix, HoldsStill, LeavesPrefixes}
 use Rattle.lr_shelf.specs.InitialShelves.{StandsWith, capacity_of, end_with_files, next_number}
 use Rattle.lr_shelf.specs.InitialShelves.{told_end}
+use Rattle.lr_cmd_receive.specs.Noted.{NotedFile, placed_files}
+
+-- the line of a file that was shelved, and how many fillers it has
+unfoldable pub mended_line : ℕ → File → ℕ → List ℕ
+mended_line number file fillers = concat (
+    codes "shelved " ∷ decimal number ∷ codes " vc " ∷ decimal file.vc ∷ codes " apid " ∷ decimal file.apid
+    ∷ codes " counter " ∷ decimal (counter_of file) ∷ codes " bytes " ∷ decimal (length (bytes_of file))
+    ∷ codes " packets " ∷ decimal (length file.bodies) ∷ codes " mended " ∷ decimal fillers ∷ codes "\n" ∷ [])
+
+-- the line of a file, with its fillers where they are noted
+abbrev pub line_with : ℕ → File → Option ℕ → List ℕ
+line_with number file None = shelved_line number file
+line_with number file (Some fillers) = mended_line number file fillers
+
+abbrev pub noted_line : ℕ → NotedFile → List ℕ
+noted_line number noted = line_with number noted.placed.file noted.fillers
 
 -- the lines of files, the first of which has that number on the shelf
-unfoldable pub shelved_lines : ℕ → List Placed → List ℕ
-shelved_lines number files =
-    numbered_lines (λ place (placed : Placed). shelved_line place placed.file) number files
+unfoldable pub shelved_lines : ℕ → List NotedFile → List ℕ
+shelved_lines number files = numbered_lines noted_line number files
 
 -- the bytes stand for what was there and the files that are done, or for the next one too
-abbrev pub StandsForOneFileMore : InitialShelf → List Placed → List Placed → List ℕ → Type 0
+abbrev pub StandsForOneFileMore : InitialShelf → List NotedFile → List NotedFile → List ℕ → Type 0
 StandsForOneFileMore initial done rest bytes =
-    StandsWith initial done bytes
-    ⊎ ((next : Placed) × (more : List Placed) × (rest ≡ next ∷ more)
-    × StandsWith initial (done ++ next ∷ []) bytes)
+    StandsWith initial (placed_files done) bytes
+    ⊎ ((next : NotedFile) × (more : List NotedFile) × (rest ≡ next ∷ more)
+    × StandsWith initial (placed_files (done ++ next ∷ [])) bytes)
 
 module _ {O : Type 0} (out : SinkOf O) where
   -- `out` got this text
@@ -38,9 +54,9 @@ module _ {O : Type 0} (out : SinkOf O) where
 -- what stood there before, and the files that come onto it
 pub record FilesOnto : Type 0 where
   pub initial : InitialShelf
-  pub files : List Placed
+  pub files : List NotedFile
 
-abbrev pub files_onto : InitialShelf → List Placed → FilesOnto
+abbrev pub files_onto : InitialShelf → List NotedFile → FilesOnto
 files_onto initial files = record { initial = initial; files = files }
 
 -- where the next file would end, and the capacity
@@ -54,18 +70,18 @@ shortage_of needed most = record { needed = needed; most = most }
 module _ {D O : Type 0} (world : OutletsOf D O) (all : FilesOnto) where
   -- The first ones of these files are acknowledged: the contents and each crash image hold them all, and perhaps files
   -- after them, and `out` got their lines, and perhaps more.
-  pub record AreAcknowledged (first : List Placed) (w w' : Outlets D O) : Type 0 where
-    pub others : List Placed
+  pub record AreAcknowledged (first : List NotedFile) (w w' : Outlets D O) : Type 0 where
+    pub others : List NotedFile
     pub split : all.files ≡ first ++ others
-    pub held : HoldsPrefix world.disk all.initial all.files (length first) w'.disk
+    pub held : HoldsPrefix world.disk all.initial (placed_files all.files) (length first) w'.disk
     pub told : world.out.tells w.out → (text : List ℕ)
         × (world.out.contents w'.out
         ≡ world.out.contents w.out ++ (shelved_lines (next_number all.initial) first ++ text))
 
   -- the disk failed: these files are acknowledged, and one more may stand there
   pub record DiskStops (w w' : Outlets D O) : Type 0 where
-    pub done : List Placed
-    pub rest : List Placed
+    pub done : List NotedFile
+    pub rest : List NotedFile
     pub split : all.files ≡ done ++ rest
     pub contents : StandsForOneFileMore all.initial done rest (world.disk.contents w'.disk)
     pub images : (c : List ℕ) → world.disk.may_leave w'.disk c
@@ -74,33 +90,33 @@ module _ {D O : Type 0} (world : OutletsOf D O) (all : FilesOnto) where
 
   -- memory was refused: these files are acknowledged, and they alone stand there
   pub record MemoryStops (w w' : Outlets D O) : Type 0 where
-    pub done : List Placed
-    pub rest : List Placed
+    pub done : List NotedFile
+    pub rest : List NotedFile
     pub split : all.files ≡ done ++ rest
-    pub durable : HoldsStill all.initial done world.disk w'.disk
+    pub durable : HoldsStill all.initial (placed_files done) world.disk w'.disk
     pub got : GotText world.out (shelved_lines (next_number all.initial) done) w.out w'.out
 
   -- the next file doesn't fit
   pub record FullStops (shortage : Shortage) (w w' : Outlets D O) : Type 0 where
-    pub done : List Placed
-    pub next : Placed
-    pub rest : List Placed
+    pub done : List NotedFile
+    pub next : NotedFile
+    pub rest : List NotedFile
     pub split : all.files ≡ done ++ next ∷ rest
-    pub durable : HoldsStill all.initial done world.disk w'.disk
+    pub durable : HoldsStill all.initial (placed_files done) world.disk w'.disk
     pub got : GotText world.out (shelved_lines (next_number all.initial) done) w.out w'.out
-    pub needs : shortage.needed ≡ told_end all.initial (done ++ next ∷ [])
+    pub needs : shortage.needed ≡ told_end all.initial (placed_files (done ++ next ∷ []))
     pub of : shortage.most ≡ capacity_of all.initial
-    pub over : capacity_of all.initial < end_with_files all.initial (done ++ next ∷ [])
+    pub over : capacity_of all.initial < end_with_files all.initial (placed_files (done ++ next ∷ []))
 
   -- `out` failed in the line of a file that is shelved
   pub record LineStops (w w' : Outlets D O) : Type 0 where
-    pub done : List Placed
-    pub last : Placed
-    pub rest : List Placed
+    pub done : List NotedFile
+    pub last : NotedFile
+    pub rest : List NotedFile
     pub split : all.files ≡ (done ++ last ∷ []) ++ rest
-    pub durable : HoldsStill all.initial (done ++ last ∷ []) world.disk w'.disk
+    pub durable : HoldsStill all.initial (placed_files (done ++ last ∷ [])) world.disk w'.disk
     pub part : GotPart world.out (shelved_lines (next_number all.initial) done)
-        (shelved_line (next_number all.initial + length done) last.file) w.out w'.out
+        (noted_line (next_number all.initial + length done) last) w.out w'.out
 
   -- how shelving these files stops, for each cause that may stop it
   abbrev pub StopsBy : Cause → Outlets D O → Outlets D O → Type 0
@@ -112,5 +128,5 @@ module _ {D O : Type 0} (world : OutletsOf D O) (all : FilesOnto) where
 
   -- shelving stopped
   pub record Stops (cause : Cause) (w w' : Outlets D O) : Type 0 where
-    pub any_moment : LeavesPrefixes world.disk all.initial all.files w.disk w'.disk
+    pub any_moment : LeavesPrefixes world.disk all.initial (placed_files all.files) w.disk w'.disk
     pub why : StopsBy cause w w'

@@ -1,5 +1,6 @@
 -- What `trial` does to the outside.
 use Rattle.std.specs.Prelude.{◌≡◌, ◌⊎◌, ℕ, List, [], length}
+use Rattle.lr_bits.specs.declared.placed.Placed.{Placed}
 use Rattle.lr_io.specs.declared.sink.Sink.{Ghosts as SinkOf}
 use Rattle.lr_io.specs.Pieces.{PutsPart}
 use Rattle.lr_conv.specs.declared.line.TheConstants.{STANDARD}
@@ -21,6 +22,7 @@ use Rattle.lr_causes.specs.Outside.{Outlets, OutletsOf, outlet_counts}
 use Rattle.lr_causes.specs.Counts.{CountsTell}
 use Rattle.lr_cmd_receive.specs.First.{SourceBesides}
 use Rattle.lr_cmd_receive.specs.Inputs.{files_of_bytes}
+use Rattle.lr_cmd_receive.specs.Noted.{placed_files}
 use Rattle.lr_cmd_receive.specs.Onto.{ChangesFor}
 use Rattle.lr_cmd_receive.specs.Receive.{receive_last}
 use Rattle.lr_shelf.specs.InitialShelves.{OfItems, StandsForPrefix, with_files}
@@ -30,16 +32,20 @@ use Rattle.lr_cmd_receive.specs.Shelving.{GotText}
 abbrev pub trial_capacity : ℕ
 trial_capacity = 1048576
 
+-- the files of these symbols; nothing is mended
+abbrev pub trial_files : List ℕ → List Placed
+trial_files symbols = placed_files (files_of_bytes 0 (Symbols STANDARD) symbols)
+
 -- these bytes stand for a shelf of that capacity with a prefix of the files of these symbols, with n of them at least
 abbrev pub StandsForPart : List ℕ → ℕ → List ℕ → Type 0
 StandsForPart symbols n bytes =
-    StandsForPrefix (OfItems trial_capacity []) (files_of_bytes (Symbols STANDARD) symbols) n bytes
+    StandsForPrefix (OfItems trial_capacity []) (trial_files symbols) n bytes
 
 -- These bytes do so, and they were an empty shelf: but for the first ones of the files, for which there is room, they
 -- are as they were.
 pub record GotFiles (symbols empty bytes : List ℕ) : Type 0 where
   pub stands : StandsForPart symbols 0 bytes
-  pub changes : ChangesFor (way_of trial_capacity []) (files_of_bytes (Symbols STANDARD) symbols) empty bytes
+  pub changes : ChangesFor (way_of trial_capacity []) (trial_files symbols) empty bytes
 
 -- What a trial leaves of the bytes that it found: what an `init` that failed leaves of them, which may be none; or a
 -- new shelf that got files, and no byte after them.
@@ -64,12 +70,12 @@ module _ {D : Type 0} (disk : DiskOf D) (symbols : List ℕ) where
   abbrev pub DiskEnds : Cause → D → D → Type 0
   DiskEnds Done d d' =
       (disk.tells d → IsDurable disk trial_capacity
-      (with_files [] (files_of_bytes (Symbols STANDARD) symbols)) d')
+      (with_files [] (trial_files symbols)) d')
       × (disk.faults d' ≡ disk.faults d)
   DiskEnds (Failed Disk) d d' = Unit {0}
   DiskEnds (Failed Output) d d' =
       disk.tells d → IsDurable disk trial_capacity
-      (with_files [] (files_of_bytes (Symbols STANDARD) symbols)) d'
+      (with_files [] (trial_files symbols)) d'
   DiskEnds NoMemory d d' = disk.tells d → (d' ≡ d) ⊎ IsBare disk d' ⊎ HoldsTrialPart 1 d'
   DiskEnds (Refused (NotAShelf at)) d d' = disk.tells d → ⊥
   DiskEnds (Refused (Capacity needed most)) d d' = disk.tells d → ⊥
@@ -96,10 +102,10 @@ module _ {D : Type 0} (disk : DiskOf D) (symbols : List ℕ) where
 module _ {O : Type 0} (out : SinkOf O) (symbols : List ℕ) where
   -- what `out` got: the last line of `receive` alone, where the work is done
   abbrev pub OutEnds : Cause → O → O → Type 0
-  OutEnds Done o o' = GotText out (receive_last (Symbols STANDARD) symbols End) o o'
+  OutEnds Done o o' = GotText out (receive_last 0 (Symbols STANDARD) symbols End) o o'
       × (out.faults o' ≡ out.faults o)
   OutEnds (Failed Output) o o' =
-      out.tells o → PutsPart (receive_last (Symbols STANDARD) symbols End)
+      out.tells o → PutsPart (receive_last 0 (Symbols STANDARD) symbols End)
       (out.contents o) (out.contents o')
   OutEnds _ o o' = o' ≡ o
 

@@ -8,6 +8,7 @@
 //! stream onto a shelf that it makes (`TrialRun`). Each says for every cause what became of source, disk and `out`.
 #![tactic(auto)]
 
+mod lines;
 mod new_shelf;
 mod receive_counts;
 mod reception;

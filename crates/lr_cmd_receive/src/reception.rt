@@ -3,6 +3,7 @@ ghost use Rattle.std.specs.Prelude.{◌≡◌, ◌≤◌, ◌^◌, ℕ, [], IfOk
 ghost use Rattle.lr_cmd_receive.specs.Shelved.{shelf_in};
 ghost use Rattle.lr_causes.specs.Outside.{outside, world_of, outlets_of};
 ghost use Rattle.lr_forms.specs.declared.forms.Input.{Input as Input'};
+ghost use Rattle.lr_mend.specs.declared.mender.TheConstants.{MOST_FILLERS};
 ghost use Rattle.lr_reading.specs.Leading.{MayLead, Leads};
 ghost use Rattle.lr_reading.specs.Readers.{Leeway, leeway_for};
 ghost use Rattle.lr_reading.specs.Runs.{IsLed, course_of, lent};
@@ -11,6 +12,7 @@ ghost use Rattle.lr_cmd_receive.specs.Reception.{ReadsAll, ReadsSome, EndsRun, P
 ghost use Rattle.lr_cmd_receive.specs.ShelverTaken.{ShelverTook, ShelverStopped};
 
 use crate::receive_counts::ReceiveCounts;
+use crate::shelve::Ended;
 use crate::shelver::Shelver;
 use lr_bits::{Bytes, NoMemory};
 use lr_catalog::{ReceiveSums, Summary, summary_line};
@@ -27,40 +29,46 @@ use std::alloc::Global;
 use std::sync::Wait;
 use std::thread::Threads;
 
-/// Shelves all files of the input through which the call `read` leads.
+/// Shelves all files of the input through which the call `read` leads. An image may have so many fillers.
 pub(crate) fn receive_all<
     S: Source,
     D: Disk,
     O: Sink,
     F: FnOnce(&mut S, &mut Shelver<'_, D, O>) -> Result<ReadCounts, Cause>,
 >(
+    mend: u16,
     shelf: &mut Shelf,
     source: &mut S,
     disk: &mut D,
     out: &mut O,
     read: F,
 ) -> Result<ReceiveCounts, Cause>
+    requires mend { mend ≤ MOST_FILLERS }
     requires ready { MayLead (F.pre read) (ShelverTook (outlets_of D.Disk O.Sink)) }
     ensures all { (input : Input') (most : ℕ) (leeway : Leeway) → Leads (F.post read)
         (course_of S.Source (ShelverTook (outlets_of D.Disk O.Sink)) input most leeway)
         (ShelverStopped (outlets_of D.Disk O.Sink))
-        → IfOk result (λ sums. ReadsAll (world_of S.Source D.Disk O.Sink) (reception input most leeway) sums
+        → IfOk result (λ sums. ReadsAll (world_of S.Source D.Disk O.Sink) (reception mend input most leeway) sums
         (shelf_in shelf.old (outside source.old disk.old out.old))
         (shelf_in shelf.new (outside source.new disk.new out.new))) }
     ensures some { (input : Input') (most : ℕ) (leeway : Leeway) → Leads (F.post read)
         (course_of S.Source (ShelverTook (outlets_of D.Disk O.Sink)) input most leeway)
         (ShelverStopped (outlets_of D.Disk O.Sink))
         → IfErr result
-        (λ cause. ReadsSome (world_of S.Source D.Disk O.Sink) (reception input most leeway) cause
+        (λ cause. ReadsSome (world_of S.Source D.Disk O.Sink) (reception mend input most leeway) cause
         (shelf_in shelf.old (outside source.old disk.old out.old)) (outside source.new disk.new out.new)) }
 {
     let alloc = shelf.allocator();
-    let mut layers = Layers::new(alloc);
-    let mut files = Vec::new(alloc);
+    let mut layers = Layers::mending(alloc, mend);
+    let mut ended = Ended {
+        files: Vec::new(alloc),
+        fillers: Vec::new(alloc),
+    };
     let mut shelver = Shelver {
         counts: layers.counts(),
         layers: &mut layers,
-        files: &mut files,
+        mends: mend != 0,
+        ended: &mut ended,
         shelf,
         disk,
         out,
@@ -103,16 +111,17 @@ fn receive_onto<
     D: Disk,
     O: Sink,
     F: FnOnce(&mut S, &mut Shelver<'_, D, O>) -> Result<ReadCounts, Cause>,
->(shelf: &mut Shelf, source: &mut S, disk: &mut D, out: &mut O, read: F) -> Cause
+>(mend: u16, shelf: &mut Shelf, source: &mut S, disk: &mut D, out: &mut O, read: F) -> Cause
+    requires mend { mend ≤ MOST_FILLERS }
     requires ready { MayLead (F.pre read) (ShelverTook (outlets_of D.Disk O.Sink)) }
     ensures { (input : Input') (most : ℕ) (leeway : Leeway) → Leads (F.post read)
         (course_of S.Source (ShelverTook (outlets_of D.Disk O.Sink)) input most leeway)
         (ShelverStopped (outlets_of D.Disk O.Sink))
-        → EndsRun (world_of S.Source D.Disk O.Sink) (reception input most leeway) result
+        → EndsRun (world_of S.Source D.Disk O.Sink) (reception mend input most leeway) result
         (shelf_in shelf.old (outside source.old disk.old out.old)) (outside source.new disk.new out.new) }
 {
     let alloc = shelf.allocator();
-    let sums = match receive_all(shelf, source, disk, out, read) {
+    let sums = match receive_all(mend, shelf, source, disk, out, read) {
         Ok(sums) => sums,
         Err(cause) => return cause,
     };
@@ -129,32 +138,35 @@ fn receive_with<
     D: Disk,
     O: Sink,
     F: FnOnce(&mut S, &mut Shelver<'_, D, O>) -> Result<ReadCounts, Cause>,
->(alloc: Global, source: &mut S, disk: &mut D, out: &mut O, read: F) -> Cause
+>(alloc: Global, mend: u16, source: &mut S, disk: &mut D, out: &mut O, read: F) -> Cause
+    requires mend { mend ≤ MOST_FILLERS }
     requires ready { MayLead (F.pre read) (ShelverTook (outlets_of D.Disk O.Sink)) }
     ensures { (input : Input') (workers most : ℕ) → Leads (F.post read)
         (course_of S.Source (ShelverTook (outlets_of D.Disk O.Sink)) input most (leeway_for input workers))
         (ShelverStopped (outlets_of D.Disk O.Sink))
-        → ReceiveRun (world_of S.Source D.Disk O.Sink) (receive_query input workers most) result
+        → ReceiveRun (world_of S.Source D.Disk O.Sink) (receive_query mend input workers most) result
         (outside source.old disk.old out.old) (outside source.new disk.new out.new) }
 {
     match Shelf::load(alloc, disk) {
-        Ok(mut shelf) => receive_onto(&mut shelf, source, disk, out, read),
+        Ok(mut shelf) => receive_onto(mend, &mut shelf, source, disk, out, read),
         Err(error) => shelf_cause(error),
     }
 }
 
 /// Takes at most `most` bytes, and puts their mission files onto the shelf that the disk holds, all on the caller's
-/// thread. What reading takes of memory is taken first, then the shelf is loaded, and then the source is read.
+/// thread. An image that lacks packets gets `mend` fillers at most; with 0 none is mended. What reading takes of memory is taken first, then the shelf is loaded, and then the source is read.
 pub fn receive_alone<S: Source, D: Disk, O: Sink>(
     alloc: Global,
     input: Input,
+    mend: u16,
     most: u64,
     source: &mut S,
     disk: &mut D,
     out: &mut O,
 ) -> Cause
     requires few { most ≤ 2 ^ 48 }
-    ensures { ReceiveRun (world_of S.Source D.Disk O.Sink) (receive_query input 1 most) result
+    requires mend { mend ≤ MOST_FILLERS }
+    ensures { ReceiveRun (world_of S.Source D.Disk O.Sink) (receive_query mend input 1 most) result
         (outside source.old disk.old out.old) (outside source.new disk.new out.new) }
 {
     let reader = match Reader::<FrameWork>::new(alloc, input, 1, most, &()) {
@@ -163,6 +175,7 @@ pub fn receive_alone<S: Source, D: Disk, O: Sink>(
     };
     receive_with(
         alloc,
+        mend,
         source,
         disk,
         out,
@@ -184,14 +197,16 @@ pub fn receive<R: Threads + Wait + Sync, H: Hand, S: Source, D: Disk, O: Sink>(
     tools: &H::Tools,
     input: Input,
     workers: u32,
+    mend: u16,
     most: u64,
     source: &mut S,
     disk: &mut D,
     out: &mut O,
 ) -> Cause
     requires few { most ≤ 2 ^ 48 }
+    requires mend { mend ≤ MOST_FILLERS }
     requires workers { (1 ≤ workers) × (workers ≤ MOST_WORKERS) }
-    ensures { ReceiveRun (world_of S.Source D.Disk O.Sink) (receive_query input workers most) result
+    ensures { ReceiveRun (world_of S.Source D.Disk O.Sink) (receive_query mend input workers most) result
         (outside source.old disk.old out.old) (outside source.new disk.new out.new) }
 {
     let reader = match Reader::<H>::new(alloc, input, workers, most, tools) {
@@ -200,6 +215,7 @@ pub fn receive<R: Threads + Wait + Sync, H: Hand, S: Source, D: Disk, O: Sink>(
     };
     receive_with(
         alloc,
+        mend,
         source,
         disk,
         out,

@@ -1,6 +1,5 @@
 //! What `receive` does with each outcome.
-use crate::shelve::shelve_outcome;
-use lr_bits::Placed;
+use crate::shelve::{Ended, shelve_outcome};
 use lr_causes::Cause;
 use lr_disk::Disk;
 use lr_io::Sink;
@@ -14,8 +13,10 @@ pub(crate) struct Shelver<'a, D, O> {
     /// What the layers counted so far.
     pub counts: Counts,
     pub layers: &'a mut Layers,
+    /// Whether images are mended.
+    pub mends: bool,
     /// The files that end with the outcome that is shelved.
-    pub files: &'a mut Vec<Placed>,
+    pub ended: &'a mut Ended,
     pub shelf: &'a mut Shelf,
     pub disk: &'a mut D,
     pub out: &'a mut O,
@@ -38,7 +39,8 @@ impl<'a, D: Disk, O: Sink> Consumer for Shelver<'a, D, O> {
         shelve_outcome(
             &arrival.outcome,
             self.layers,
-            self.files,
+            self.mends,
+            self.ended,
             self.shelf,
             self.disk,
             self.out,

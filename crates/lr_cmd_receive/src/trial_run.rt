@@ -9,7 +9,6 @@ ghost use Rattle.lr_make.specs.Frames.{frame_at};
 ghost use Rattle.lr_make.specs.Received.{IsReceivedAs};
 ghost use Rattle.lr_cmd_receive.specs.Filling.{FillsDisk, Fills, StopsFilling};
 ghost use Rattle.lr_shelf.specs.InitialShelves.{with_files};
-ghost use Rattle.lr_cmd_receive.specs.Inputs.{files_of_bytes};
 ghost use Rattle.lr_cmd_receive.specs.Made.{made_bytes, test_frames};
 ghost use Rattle.lr_cmd_receive.specs.Receive.{receive_last};
 ghost use Rattle.lr_cmd_receive.specs.Reception.{sums_line};
@@ -18,7 +17,7 @@ ghost use Rattle.lr_reading.specs.Readers.{Leeway, leeway_for};
 ghost use Rattle.lr_reading.specs.Runs.{IsLed, course_of, lent};
 ghost use Rattle.lr_cmd_receive.specs.ShelverTaken.{ShelverTook, ShelverStopped};
 ghost use Rattle.lr_cmd_receive.specs.Sure.{sure_source, sure_sink};
-ghost use Rattle.lr_cmd_receive.specs.Trial.{trial_capacity, TrialRun};
+ghost use Rattle.lr_cmd_receive.specs.Trial.{trial_capacity, trial_files, TrialRun};
 ghost use Rattle.lr_forms.specs.declared.forms.Input.TheVariants.{Symbols};
 ghost use Rattle.lr_forms.specs.declared.forms.TheConstants.{MOST_BYTES as most_bytes};
 ghost use Rattle.lr_causes.specs.Outside.{outlets, outlets_of};
@@ -79,11 +78,11 @@ fn shelve_stream<
         (course_of sure_source (ShelverTook (outlets_of D.Disk sure_sink)) (Symbols standard) most_bytes leeway)
         (ShelverStopped (outlets_of D.Disk sure_sink)) }
     requires few { length symbols.items < most_bytes }
-    requires fit { end_of (with_files [] (files_of_bytes (Symbols standard) symbols.items))
+    requires fit { end_of (with_files [] (trial_files symbols.items))
         ≤ trial_capacity }
     requires empty { D.tells disk.old → IsDurable D.Disk trial_capacity [] disk.old }
     ensures line { IfOk result (λ sums. sums_line sums
-        ≡ receive_last (Symbols standard) symbols.items End) }
+        ≡ receive_last 0 (Symbols standard) symbols.items End) }
     ensures done { OnOk result (FillsDisk D.Disk symbols.items Cause.Done disk.old disk.new) }
     ensures stopped { IfErr result (λ cause. StopsFilling D.Disk symbols.items cause
         disk.old disk.new) }
@@ -94,7 +93,7 @@ fn shelve_stream<
     };
     let mut source = SureSource::of(symbols);
     let mut lines = SureSink::new();
-    receive_all(&mut shelf, &mut source, disk, &mut lines, read)
+    receive_all(0, &mut shelf, &mut source, disk, &mut lines, read)
 }
 
 /// Puts the files of these symbols onto the empty shelf on the disk, and then the last line.
@@ -108,7 +107,7 @@ fn fill<
         (course_of sure_source (ShelverTook (outlets_of D.Disk sure_sink)) (Symbols standard) most_bytes leeway)
         (ShelverStopped (outlets_of D.Disk sure_sink)) }
     requires few { length symbols.items < most_bytes }
-    requires fit { end_of (with_files [] (files_of_bytes (Symbols standard) symbols.items))
+    requires fit { end_of (with_files [] (trial_files symbols.items))
         ≤ trial_capacity }
     requires empty { D.tells disk.old → IsDurable D.Disk trial_capacity [] disk.old }
     ensures { Fills (outlets_of D.Disk O.Sink) symbols.items result

@@ -19,24 +19,26 @@ use Rattle.lr_words.specs.declared.command.Command.TheVariants.{Downlinks, Intak
 use Rattle.lr_cmd_receive.specs.Shelving.{FilesOnto, files_onto}
 use Rattle.lr_words.specs.declared.command.IntakeAction.TheVariants.{Decode, Receive}
 
-module _ {S D O : Type 0} {world : World S D O} {input : Input} {w w' : Outside S D O} {few many : ℕ}
+module _ {S D O : Type 0} {world : World S D O} {mend : ℕ} {input : Input} {w w' : Outside S D O} {few many : ℕ}
     (is : IsStricter (leeway_for input few) (leeway_for input many)) where
-  fewer_wait : {initial : InitialShelf} {bytes : List ℕ} → PutsNoFileOff world (taken_by input few bytes) initial w w'
-      → PutsNoFileOff world (taken_by input many bytes) initial w w'
+  fewer_wait : {initial : InitialShelf} {bytes : List ℕ} → PutsNoFileOff world
+      (taken_by mend input few bytes) initial w w'
+      → PutsNoFileOff world (taken_by mend input many bytes) initial w w'
   fewer_wait {initial} {bytes} keeps =
-      let all : FilesOnto = files_onto initial (files_of_bytes input bytes) in
+      let all : FilesOnto = files_onto initial (files_of_bytes mend input bytes) in
       record {
         timely = λ count come. keeps.timely count (at_end_too input is bytes count come);
         timely_in_bytes = λ count come. keeps.timely_in_bytes count (ahead_too input is bytes count come);
         in_time = when_too world.source
-            (AreInTime (world_outlets world) all input (leeway_for input few) (outlets_in w) (outlets_in w'))
-            (AreInTime (world_outlets world) all input (leeway_for input many) (outlets_in w) (outlets_in w')) bytes
+            (AreInTime (world_outlets world) all mend input (leeway_for input few) (outlets_in w) (outlets_in w'))
+            (AreInTime (world_outlets world) all mend input (leeway_for input many) (outlets_in w)
+            (outlets_in w')) bytes
             w.source w'.source (λ given pieces due count wait may have. due count wait
             (wait_too input is given pieces wait may) (tail_too input is given (count + wait) have)) keeps.in_time;
       }
 
-  pub run_within : {limit : ℕ} {cause : Cause} → ReceiveRun world (receive_query input few limit) cause w w'
-      → ReceiveRun world (receive_query input many limit) cause w w'
+  pub run_within : {limit : ℕ} {cause : Cause} → ReceiveRun world (receive_query mend input few limit) cause w w'
+      → ReceiveRun world (receive_query mend input many limit) cause w w'
   run_within {limit} {cause} run = record {
     causes = run.causes;
     first = run.first;
@@ -73,11 +75,11 @@ module _ {S D O : Type 0} (world : World S D O) (cause : Cause) (w w' : Outside 
     by : (command : Command) → IsKnownAlone (Some command) → IsInRange (Some command)
         → Runs world (alone (Some command)) cause w w' → Runs world (Some command) cause w w'
     by (Downlinks line) known range run = absurd known
-    by (Intake Receive input workers most) known range run =
-        run_within (stricter_alone input workers range.1.0) run
+    by (Intake (Receive mend) input workers most) known range run =
+        run_within (stricter_alone input workers range.2.0) run
     by (Intake Decode input workers most) known range run = (
       run.0,
       prints_loosely (world_pipe world) (decode_printed input 1 most) (leeway_for input workers)
-          (stricter_alone input workers range.1.0) (pipe_in w) (pipe_in w') cause run.1,
+          (stricter_alone input workers range.2.0) (pipe_in w) (pipe_in w') cause run.1,
     )
     by _ known range run = run

@@ -33,7 +33,7 @@ module _ {S D O : Type 0} (world : World S D O)
   by_effect (Frames EachFrame most) still run = untouched run.0
   by_effect (Frames EachPacket most) still run = untouched run.0
   by_effect (Intake Decode input workers most) still run = untouched run.0
-  by_effect (Intake Receive input workers most) still run = absurd (cc (still))
+  by_effect (Intake (Receive mend) input workers most) still run = absurd (cc (still))
   by_effect (Downlinks line) still run = absurd (cc (still))
   by_effect (OnShelf ListAll) still run = run.1.runs.only_read
   by_effect (OnShelf Verify) still run = run.1.runs.only_read

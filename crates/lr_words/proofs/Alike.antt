@@ -6,7 +6,7 @@ use Rattle.lr_words.specs.Commands.{given_by, command_of, command_shaped}
 use Rattle.lr_words.specs.Shapes.{shape_named}
 use Rattle.lr_words.specs.declared.shape.Shape.{Shape}
 use Rattle.lr_words.specs.declared.shape.Shape.TheVariants.{Capacity, Nothing, Number, Symbols}
-use Rattle.lr_words.specs.declared.shape.Shape.TheVariants.{Intake, Line, Workers, Segments, Sent}
+use Rattle.lr_words.specs.declared.shape.Shape.TheVariants.{Intake, MendedIntake, Line, Workers, Segments, Sent}
 use Rattle.lr_words.specs.declared.shape.Shape.TheVariants.{Block, Made, Tried}
 
 pub same_given : (shape : Shape) (a b : Text → Option Text) → ((id : Text) → a id ≡ b id)
@@ -15,7 +15,15 @@ same_given Capacity a b same = rw (same (codes "capacity")) refl
 same_given (Nothing kind) a b same = refl
 same_given (Number kind) a b same = rw (same (codes "number")) refl
 same_given (Symbols kind) a b same = rw (same (codes "symbols")) refl
-same_given (Intake kind) a b same = rw (
+same_given Intake a b same = rw (
+  same (codes "workers"),
+  same (codes "line"),
+  same (codes "g2"),
+  same (codes "input"),
+  same (codes "symbols"),
+) refl
+same_given MendedIntake a b same = rw (
+  same (codes "mend"),
   same (codes "workers"),
   same (codes "line"),
   same (codes "g2"),

@@ -18,10 +18,10 @@ use Rattle.lr_words.specs.declared.command.Command.TheVariants.{Assemble, Transm
 use Rattle.lr_words.specs.declared.command.FileAction.{FileAction}
 use Rattle.lr_words.specs.declared.command.FileAction.TheVariants.{Extract, Show, Export, Discard}
 use Rattle.lr_words.specs.declared.command.FrameLines.{FrameLines}
-use Rattle.lr_words.specs.declared.command.IntakeAction.TheVariants.{Decode, Receive}
+use Rattle.lr_words.specs.declared.command.IntakeAction.TheVariants.{Decode}
 use Rattle.lr_words.specs.declared.shape.Shape.{Shape}
 use Rattle.lr_words.specs.declared.shape.Shape.TheVariants.{Capacity, Nothing, Number, Symbols}
-use Rattle.lr_words.specs.declared.shape.Shape.TheVariants.{Intake as IntakeWords, Line, Workers}
+use Rattle.lr_words.specs.declared.shape.Shape.TheVariants.{Intake as IntakeWords, MendedIntake, Line, Workers}
 use Rattle.lr_words.specs.declared.shape.Shape.TheVariants.{Segments, Sent, Block, Made, Tried}
 
 -- it isn't one that may change the shelf, if there is one
@@ -90,10 +90,10 @@ by_shape Capacity none value = absurd (cc (none))
 by_shape (Nothing action) none value = refl
 by_shape (Number action) none value = on_file action none (required_number value (codes "number") 0 most_u64)
 by_shape (Symbols lines) none value = frames lines (most_of (value (codes "symbols")))
-by_shape (IntakeWords Decode) none value =
+by_shape IntakeWords none value =
     decode (workers_given (value (codes "workers"))) (line_code_given (value (codes "line")) (value (codes "g2")))
     (λ line. input_of Decode line (value (codes "input"))) (most_of (value (codes "symbols")))
-by_shape (IntakeWords Receive) none value = absurd (cc (none))
+by_shape MendedIntake none value = absurd (cc (none))
 by_shape Line none value = absurd (cc (none))
 by_shape Workers none value = render (workers_given (value (codes "workers")))
 by_shape Segments none value =

@@ -3,7 +3,7 @@ use Rattle.std.specs.Prelude.{true, List, [], ◌∷◌, Some, codes}
 use Rattle.clap.specs.Words.{App, Rule, Text, new_app, new_rule, with_rule}
 use Rattle.lr_words.specs.declared.shape.Shape.{Shape}
 use Rattle.lr_words.specs.declared.shape.Shape.TheVariants.{Capacity, Nothing, Number, Symbols}
-use Rattle.lr_words.specs.declared.shape.Shape.TheVariants.{Intake, Line, Workers, Segments, Sent}
+use Rattle.lr_words.specs.declared.shape.Shape.TheVariants.{Intake, MendedIntake, Line, Workers, Segments, Sent}
 use Rattle.lr_words.specs.declared.shape.Shape.TheVariants.{Block, Made, Tried}
 
 -- an argument that has to be there, by its place
@@ -35,6 +35,10 @@ symbols_app name = app_with (new_app name) (option (codes "symbols") ∷ [])
 unfoldable pub intake_app : Text → App
 intake_app name = app_with (new_app name) (option (codes "input") ∷ option (codes "workers")
     ∷ option (codes "symbols") ∷ option (codes "line") ∷ option (codes "g2") ∷ [])
+
+-- the same, and `[--mend N]`
+unfoldable pub mended_app : Text → App
+mended_app name = with_rule (intake_app name) (option (codes "mend"))
 
 -- `[--line CODE] [--g2 G2]`
 unfoldable pub line_app : Text → App
@@ -69,7 +73,8 @@ app_of_shape Capacity name = capacity_app name
 app_of_shape (Nothing kind) name = new_app name
 app_of_shape (Number kind) name = number_app name
 app_of_shape (Symbols kind) name = symbols_app name
-app_of_shape (Intake kind) name = intake_app name
+app_of_shape Intake name = intake_app name
+app_of_shape MendedIntake name = mended_app name
 app_of_shape Line name = line_app name
 app_of_shape Workers name = workers_app name
 app_of_shape Segments name = segments_app name

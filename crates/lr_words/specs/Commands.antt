@@ -11,11 +11,13 @@ use Rattle.lr_forms.specs.declared.forms.TheConstants.{MOST_WORKERS}
 use Rattle.lr_words.specs.Arguments.{app_of_shape}
 use Rattle.lr_words.specs.Numbers.{number_given}
 use Rattle.lr_words.specs.Shapes.{shape_named, can_write, runs_alone}
-use Rattle.lr_words.specs.Values.{coded_input, any_input, output_of, most_of, workers_given, line_code_given}
+use Rattle.lr_mend.specs.declared.mender.TheConstants.{MOST_FILLERS}
+use Rattle.lr_words.specs.Values.{coded_input, any_input, output_of, mend_given, most_of, workers_given}
+use Rattle.lr_words.specs.Values.{line_code_given}
 use Rattle.lr_words.specs.Words.{is_taken, argument_value}
 use Rattle.lr_words.specs.declared.shape.Shape.{Shape}
 use Rattle.lr_words.specs.declared.shape.Shape.TheVariants.{Capacity, Nothing, Number, Symbols}
-use Rattle.lr_words.specs.declared.shape.Shape.TheVariants.{Intake as IntakeWords, Line, Workers}
+use Rattle.lr_words.specs.declared.shape.Shape.TheVariants.{Intake as IntakeWords, MendedIntake, Line, Workers}
 use Rattle.lr_words.specs.declared.shape.Shape.TheVariants.{Segments, Sent, Block, Made, Tried}
 use Rattle.lr_words.specs.declared.command.FileAction.TheVariants.{Discard}
 use Rattle.lr_words.specs.declared.command.IntakeAction.{IntakeAction}
@@ -47,7 +49,7 @@ most_tried_frames = 1024
 -- `decode` reads no frames
 abbrev pub input_of : IntakeAction → LineCode → Option Text → Option Input
 input_of Decode = coded_input
-input_of Receive = any_input
+input_of (Receive mend) = any_input
 
 -- a block has 8, 16, 32 or 64 samples
 abbrev pub block_of : ℕ → Option ℕ
@@ -59,8 +61,17 @@ block_of n =
 abbrev pub required_number : (Text → Option Text) → Text → ℕ → ℕ → Option ℕ
 required_number value id low high = number_given low high (value id)
 
--- The command of words that look like this, where each argument has this value. `--line` and `--g2` are read in each
--- form of an intake, and say something of symbols alone.
+-- The work on a stream. `--line` and `--g2` are read in each form of it, and say something of symbols alone.
+abbrev pub intake_given : IntakeAction → (Text → Option Text) → Option Command
+intake_given action value =
+    option_and_then (λ w. option_and_then (λ line. option_and_then (λ input.
+    option_map (λ n. Intake action input w n)
+    (most_of (value (codes "symbols"))))
+    (input_of action line (value (codes "input"))))
+    (line_code_given (value (codes "line")) (value (codes "g2"))))
+    (workers_given (value (codes "workers")))
+
+-- The command of words that look like this, where each argument has this value.
 abbrev pub given_by : Shape → (Text → Option Text) → Option Command
 given_by Capacity value =
     option_map (λ n. Init n) (required_number value (codes "capacity") LEAST_CAPACITY MOST_CAPACITY)
@@ -68,13 +79,9 @@ given_by (Nothing action) value = Some (OnShelf action)
 given_by (Number action) value =
     option_map (λ n. OnFile action n) (required_number value (codes "number") 0 most_u64)
 given_by (Symbols lines) value = option_map (λ n. Frames lines n) (most_of (value (codes "symbols")))
-given_by (IntakeWords action) value =
-    option_and_then (λ w. option_and_then (λ line. option_and_then (λ input.
-    option_map (λ n. Intake action input w n)
-    (most_of (value (codes "symbols"))))
-    (input_of action line (value (codes "input"))))
-    (line_code_given (value (codes "line")) (value (codes "g2"))))
-    (workers_given (value (codes "workers")))
+given_by IntakeWords value = intake_given Decode value
+given_by MendedIntake value =
+    option_and_then (λ mend. intake_given (Receive mend) value) (mend_given (value (codes "mend")))
 given_by Line value = option_map (λ line. Downlinks line) (line_code_given (value (codes "line")) (value (codes "g2")))
 given_by Workers value = option_map (λ w. Render w) (workers_given (value (codes "workers")))
 given_by Segments value =
@@ -143,7 +150,7 @@ writes_shelf (name ∷ rest) = writes_when (shape_named name)
 -- whether this command may change the shelf
 abbrev pub may_write : Command → Bool
 may_write (Init capacity) = true
-may_write (Intake Receive input workers most) = true
+may_write (Intake (Receive mend) input workers most) = true
 may_write (Downlinks line) = true
 may_write (OnFile Discard number) = true
 may_write (Repack number block) = true
@@ -159,11 +166,17 @@ OnlyWritersMayWrite = (words : List Text) → writes_shelf words ≡ false
 abbrev pub IsWorkerCount : ℕ → Type 0
 IsWorkerCount workers = (1 ≤ workers) × (workers ≤ MOST_WORKERS)
 
+-- so many fillers may an image have
+abbrev pub MayHaveFillers : IntakeAction → Type 0
+MayHaveFillers Decode = Unit {0}
+MayHaveFillers (Receive mend) = mend ≤ MOST_FILLERS
+
 -- The numbers of a command are in their ranges.
 abbrev pub IsInRange : Option Command → Type 0
 IsInRange (Some (Init capacity)) = IsCapacity capacity
 IsInRange (Some (Frames lines most)) = most ≤ 2 ^ 48
-IsInRange (Some (Intake action input workers most)) = (most ≤ 2 ^ 48) × IsWorkerCount workers
+IsInRange (Some (Intake action input workers most)) =
+    MayHaveFillers action × (most ≤ 2 ^ 48) × IsWorkerCount workers
 IsInRange (Some (Render workers)) = IsWorkerCount workers
 IsInRange (Some (Assemble from to apid image)) = (apid ≤ most_apid) × (image ≤ most_image)
 IsInRange (Some (Transmit from to wrong line)) = wrong ≤ most_wrong

@@ -10,7 +10,8 @@ use Rattle.lr_forms.specs.declared.forms.Input.TheVariants.{Symbols, Units}
 use Rattle.lr_forms.specs.declared.forms.UnitForm.TheVariants.{Blocks, Frames}
 use Rattle.lr_forms.specs.declared.forms.Output.{Output}
 use Rattle.lr_forms.specs.declared.forms.Output.TheVariants.{Symbols as AsSymbols, Units as AsUnits}
-use Rattle.lr_words.specs.Numbers.{number_or}
+use Rattle.lr_mend.specs.declared.mender.TheConstants.{MOST_FILLERS}
+use Rattle.lr_words.specs.Numbers.{number_between, number_or}
 
 -- `--input` of `decode`; of symbols the line code is told by other options
 abbrev pub coded_input : LineCode → Option Text → Option Input
@@ -67,3 +68,8 @@ most_of = number_or 0 MOST_BYTES MOST_BYTES
 -- `--workers`: how many work on windows
 abbrev pub workers_given : Option Text → Option ℕ
 workers_given = number_or 1 MOST_WORKERS 1
+
+-- `--mend`: how many fillers an image may have; where it isn't given, none is mended
+abbrev pub mend_given : Option Text → Option ℕ
+mend_given None = Some 0
+mend_given (Some text) = number_between 1 MOST_FILLERS text

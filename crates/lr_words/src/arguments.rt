@@ -8,6 +8,7 @@ ghost use Rattle.lr_words.specs.Arguments.{
   number_app,
   symbols_app,
   intake_app,
+  mended_app,
   line_app,
   workers_app,
   segments_app,
@@ -77,6 +78,12 @@ fn intake_parser<'a>(alloc: Global, name: &'a str) -> Result<Parser<'a>, AllocEr
     with_arg(parser, option(alloc, "g2"))
 }
 
+fn mended_parser<'a>(alloc: Global, name: &'a str) -> Result<Parser<'a>, AllocError>
+    ensures { IfOk result (λ c. app_of c ≡ mended_app name.now) }
+{
+    with_arg(intake_parser(alloc, name), option(alloc, "mend"))
+}
+
 fn line_parser<'a>(alloc: Global, name: &'a str) -> Result<Parser<'a>, AllocError>
     ensures { IfOk result (λ c. app_of c ≡ line_app name.now) }
 {
@@ -139,7 +146,8 @@ pub(crate) fn parser_of<'a>(
         Shape::Nothing(_) => Ok(Parser::new(alloc, name)),
         Shape::Number(_) => number_parser(alloc, name),
         Shape::Symbols(_) => symbols_parser(alloc, name),
-        Shape::Intake(_) => intake_parser(alloc, name),
+        Shape::Intake => intake_parser(alloc, name),
+        Shape::MendedIntake => mended_parser(alloc, name),
         Shape::Line => line_parser(alloc, name),
         Shape::Workers => workers_parser(alloc, name),
         Shape::Segments => segments_parser(alloc, name),

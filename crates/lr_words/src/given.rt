@@ -1,12 +1,13 @@
 //! The command that the values of arguments give, by what the words look like.
 ghost use Rattle.std.specs.Prelude.{◌≡◌, codes};
 ghost use Rattle.clap.specs.Words.{first_value, found_of};
-ghost use Rattle.lr_words.specs.Commands.{block_of, input_of, given_by, IsInRange};
+ghost use Rattle.lr_words.specs.Commands.{block_of, input_of, intake_given, given_by, IsInRange, MayHaveFillers};
 ghost use Rattle.lr_words.specs.declared.shape.Shape.TheVariants.{
   Capacity,
   Number,
   Symbols,
   Intake,
+  MendedIntake,
   Line,
   Workers,
   Segments,
@@ -19,7 +20,9 @@ ghost use Rattle.lr_words.specs.declared.shape.Shape.TheVariants.{
 use crate::command::{Command, FileAction, FrameLines, IntakeAction};
 use crate::numbers::number_given;
 use crate::shape::Shape;
-use crate::values::{MOST_WRONG, any_input, coded_input, line_code, most, output_form, workers};
+use crate::values::{
+    MOST_WRONG, any_input, coded_input, line_code, mend, most, output_form, workers,
+};
 use clap::ArgMatches;
 use lr_conv::LineCode;
 use lr_forms::Input;
@@ -44,7 +47,7 @@ impl IntakeAction {
     {
         match self {
             IntakeAction::Decode => coded_input(matches, line),
-            IntakeAction::Receive => any_input(matches, line),
+            IntakeAction::Receive { mend: _ } => any_input(matches, line),
         }
     }
 }
@@ -73,8 +76,10 @@ fn with_symbols(lines: FrameLines, matches: &ArgMatches) -> Option<Command>
     Some(Command::Frames { lines, most })
 }
 
-fn with_intake(action: IntakeAction, matches: &ArgMatches) -> Option<Command>
-    ensures gives { result ≡ given_by (Intake action) (first_value (found_of matches.now)) }
+/// The work on a stream.
+fn with_action(action: IntakeAction, matches: &ArgMatches) -> Option<Command>
+    requires { MayHaveFillers action }
+    ensures gives { result ≡ intake_given action (first_value (found_of matches.now)) }
     ensures range { IsInRange result }
 {
     let workers = workers(matches)?;
@@ -87,6 +92,21 @@ fn with_intake(action: IntakeAction, matches: &ArgMatches) -> Option<Command>
         workers,
         most,
     })
+}
+
+fn with_intake(matches: &ArgMatches) -> Option<Command>
+    ensures gives { result ≡ given_by Intake (first_value (found_of matches.now)) }
+    ensures range { IsInRange result }
+{
+    with_action(IntakeAction::Decode, matches)
+}
+
+fn with_mended_intake(matches: &ArgMatches) -> Option<Command>
+    ensures gives { result ≡ given_by MendedIntake (first_value (found_of matches.now)) }
+    ensures range { IsInRange result }
+{
+    let mend = mend(matches)?;
+    with_action(IntakeAction::Receive { mend }, matches)
 }
 
 fn with_line(matches: &ArgMatches) -> Option<Command>
@@ -201,7 +221,8 @@ pub(crate) fn command_given(shape: Shape, matches: &ArgMatches) -> Option<Comman
         Shape::Nothing(action) => Some(Command::OnShelf(action)),
         Shape::Number(action) => with_number(action, matches),
         Shape::Symbols(lines) => with_symbols(lines, matches),
-        Shape::Intake(action) => with_intake(action, matches),
+        Shape::Intake => with_intake(matches),
+        Shape::MendedIntake => with_mended_intake(matches),
         Shape::Line => with_line(matches),
         Shape::Workers => with_workers(matches),
         Shape::Segments => with_segments(matches),

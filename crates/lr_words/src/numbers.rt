@@ -29,7 +29,7 @@ fn number_of(text: &str) -> Option<u64>
 }
 
 /// The number from `low` to `high` that a text gives.
-fn number_between(low: u64, high: u64, text: &str) -> Option<u64>
+pub(crate) fn number_between(low: u64, high: u64, text: &str) -> Option<u64>
     ensures gives { result ≡ number_between low high text.now }
     ensures low { IfSome result (λ n. low ≤ n) }
     ensures high { IfSome result (λ n. n ≤ high) }

@@ -2,7 +2,7 @@
 ghost use Rattle.std.specs.Prelude.{◌≡◌};
 ghost use Rattle.lr_words.specs.Shapes.{shape_named, can_write, runs_alone};
 
-use crate::command::{FileAction, FrameLines, IntakeAction, ShelfAction};
+use crate::command::{FileAction, FrameLines, ShelfAction};
 
 /// What the words after a command's name look like.
 #[derive(Clone, Copy)]
@@ -16,7 +16,9 @@ pub(crate) enum Shape {
     /// `[--symbols N]`
     Symbols(FrameLines),
     /// `[--input FORM] [--workers W] [--symbols N] [--line CODE] [--g2 G2]`
-    Intake(IntakeAction),
+    Intake,
+    /// The same, and `[--mend N]`
+    MendedIntake,
     /// `[--line CODE] [--g2 G2]`
     Line,
     /// `[--workers W]`
@@ -39,7 +41,7 @@ pub(crate) fn shape_of(name: &str) -> Option<Shape>
 {
     match name {
         "init" => Some(Shape::Capacity),
-        "receive" => Some(Shape::Intake(IntakeAction::Receive)),
+        "receive" => Some(Shape::MendedIntake),
         "downlinks" => Some(Shape::Line),
         "list" => Some(Shape::Nothing(ShelfAction::List)),
         "show" => Some(Shape::Number(FileAction::Show)),
@@ -51,7 +53,7 @@ pub(crate) fn shape_of(name: &str) -> Option<Shape>
         "discard" => Some(Shape::Number(FileAction::Discard)),
         "repack" => Some(Shape::Block),
         "transmit" => Some(Shape::Sent),
-        "decode" => Some(Shape::Intake(IntakeAction::Decode)),
+        "decode" => Some(Shape::Intake),
         "frames" => Some(Shape::Symbols(FrameLines::Frames)),
         "packets" => Some(Shape::Symbols(FrameLines::Packets)),
         "make" => Some(Shape::Made),
@@ -75,7 +77,7 @@ impl Shape {
         matches!(
             self,
             Shape::Capacity
-                | Shape::Intake(IntakeAction::Receive)
+                | Shape::MendedIntake
                 | Shape::Line
                 | Shape::Number(FileAction::Discard)
                 | Shape::Block

@@ -1,6 +1,7 @@
 //! The values of the options that several commands have.
 ghost use Rattle.std.specs.Prelude.{◌≡◌, ◌≤◌, IfSome, codes};
 ghost use Rattle.clap.specs.Words.{first_value, found_of};
+ghost use Rattle.lr_mend.specs.declared.mender.TheConstants.{MOST_FILLERS as most_fillers};
 ghost use Rattle.lr_words.specs.Values.{
   coded_input,
   any_input,
@@ -8,14 +9,16 @@ ghost use Rattle.lr_words.specs.Values.{
   marks_given,
   inverted_of,
   line_code_given,
+  mend_given,
   most_of,
   workers_given,
 };
 
-use crate::numbers::number_or;
+use crate::numbers::{number_between, number_or};
 use clap::ArgMatches;
 use lr_conv::LineCode;
 use lr_forms::{Input, MOST_BYTES, MOST_WORKERS, Output, UnitForm};
+use lr_mend::MOST_FILLERS;
 
 /// The most wrong bytes in each word of a test stream.
 pub(crate) const MOST_WRONG: u64 = 16;
@@ -118,4 +121,16 @@ pub(crate) fn workers(matches: &ArgMatches) -> Option<u32>
 {
     let workers = number_or(matches, "workers", 1, MOST_WORKERS, 1)?;
     Some(workers as u32)
+}
+
+/// How many fillers an image may have; where the option isn't given, none is mended.
+pub(crate) fn mend(matches: &ArgMatches) -> Option<u16>
+    ensures gives { result ≡ mend_given (first_value (found_of matches.now) (codes "mend")) }
+    ensures few { IfSome result (λ n. n ≤ most_fillers) }
+{
+    let Some(text) = matches.get_str("mend") else {
+        return Some(0);
+    };
+    let fillers = number_between(1, u64::from(MOST_FILLERS), text)?;
+    Some(fillers as u16)
 }

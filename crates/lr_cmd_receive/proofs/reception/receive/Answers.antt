@@ -6,7 +6,7 @@ use Rattle.lr_cmd_receive.proofs.reception.receive.Goals as goal
 
 pub returns-in-Err : goal.returns-in-Err
 returns-in-Err g c =
-    not_made (world_of g.S.Source g.D.Disk g.O.Sink) g.met.D.Disk.only_now c.args.input
+    not_made (world_of g.S.Source g.D.Disk g.O.Sink) g.met.D.Disk.only_now c.args.mend c.args.input
     c.args.workers c.args.most (outside c.args.source.now c.args.disk.now c.args.out.now)
     (g.met.D.Disk.reads_none c.args.disk.now)
 

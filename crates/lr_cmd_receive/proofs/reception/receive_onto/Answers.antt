@@ -4,7 +4,7 @@ use Rattle.lr_cmd_receive.proofs.reception.receive_onto.Goals as goal
 
 pub returns-in-Err : goal.returns-in-Err
 returns-in-Err g c input most leeway leads =
-    ended_some (world_of g.S.Source g.D.Disk g.O.Sink) input most c.args.shelf.now
+    ended_some (world_of g.S.Source g.D.Disk g.O.Sink) c.args.mend input most c.args.shelf.now
     (outside c.args.source.now c.args.disk.now c.args.out.now)
     (outside c.receive_all.new.source c.receive_all.new.disk c.receive_all.new.out) leeway _
     (c.in-Err.ensures.some input most leeway leads)
@@ -12,7 +12,7 @@ returns-in-Err g c input most leeway leads =
 pub returns-in-Ok-put_last : goal.returns-in-Ok-put_last
 returns-in-Ok-put_last g c input most leeway leads =
     rw c.cause_at.ensures
-    (all_put (world_of g.S.Source g.D.Disk g.O.Sink) input most c.args.shelf.now
+    (all_put (world_of g.S.Source g.D.Disk g.O.Sink) c.args.mend input most c.args.shelf.now
     (outside c.args.source.now c.args.disk.now c.args.out.now)
     (outside c.receive_all.new.source c.receive_all.new.disk c.receive_all.new.out) leeway c.in-Ok.sums
     c.receive_all.new.shelf (c.in-Ok.ensures.all input most leeway leads) c.put_last.new.out
@@ -20,7 +20,7 @@ returns-in-Ok-put_last g c input most leeway leads =
 
 pub returns-in-Err-put_last : goal.returns-in-Err-put_last
 returns-in-Err-put_last g c input most leeway leads =
-    last_stopped (world_of g.S.Source g.D.Disk g.O.Sink) input most c.args.shelf.now
+    last_stopped (world_of g.S.Source g.D.Disk g.O.Sink) c.args.mend input most c.args.shelf.now
     (outside c.args.source.now c.args.disk.now c.args.out.now)
     (outside c.receive_all.new.source c.receive_all.new.disk c.receive_all.new.out) leeway c.in-Ok.sums
     c.receive_all.new.shelf (c.in-Ok.ensures.all input most leeway leads) c.put_last.new.out _

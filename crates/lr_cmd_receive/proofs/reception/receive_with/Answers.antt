@@ -10,7 +10,7 @@ use Rattle.lr_cmd_receive.proofs.reception.receive_with.Goals as goal
 pub returns-in-Err : goal.returns-in-Err
 returns-in-Err g c input workers most leads =
     rw c.shelf_cause.ensures
-    (not_loaded (world_of g.S.Source g.D.Disk g.O.Sink) input workers most
+    (not_loaded (world_of g.S.Source g.D.Disk g.O.Sink) c.args.mend input workers most
     (outside c.args.source.now c.args.disk.now c.args.out.now) c.load.new.disk c.load.result
     c.load.ensures c.in-Err.error c.in-Err.is
     (subst (λ (r : Result Shelf ShelfError). IfErr r (IsLoadRefusal g.D.Disk c.args.disk.now)) c.in-Err.is
@@ -18,7 +18,7 @@ returns-in-Err g c input workers most leads =
 
 pub returns-in-Ok : goal.returns-in-Ok
 returns-in-Ok g c input workers most leads =
-    loaded_run (world_of g.S.Source g.D.Disk g.O.Sink) input workers most
+    loaded_run (world_of g.S.Source g.D.Disk g.O.Sink) c.args.mend input workers most
     (outside c.args.source.now c.args.disk.now c.args.out.now) c.load.new.disk c.load.result
     c.load.ensures g.met.D.Disk.only_now c.in-Ok.shelf c.in-Ok.is (outside c.receive_onto.new.source
     c.receive_onto.new.disk c.receive_onto.new.out) _

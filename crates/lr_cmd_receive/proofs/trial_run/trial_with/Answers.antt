@@ -1,10 +1,7 @@
 use Rattle.std.proofs.Common.{◌≤◌, ap, sym, subst, arith, List, [], ℕ, length}
 use Rattle.lr_shelf_format.specs.ShelfBytes.{end_of}
-use Rattle.lr_conv.specs.declared.line.TheConstants.{STANDARD}
-use Rattle.lr_forms.specs.declared.forms.Input.TheVariants.{Symbols}
-use Rattle.lr_cmd_receive.specs.Inputs.{files_of_bytes}
 use Rattle.lr_shelf.specs.InitialShelves.{with_files}
-use Rattle.lr_cmd_receive.specs.Trial.{trial_capacity}
+use Rattle.lr_cmd_receive.specs.Trial.{trial_capacity, trial_files}
 use Rattle.lr_cmd_receive.proofs.Fitting.{made_length, made_files_fit}
 use Rattle.lr_cmd_receive.proofs.TrialEnding.{init_stops, filled, withdrawn}
 use Rattle.lr_cmd_receive.proofs.trial_run.trial_with.Goals as goal
@@ -21,7 +18,7 @@ fill-requires-clause-few g c =
 
 pub fill-requires-clause-fit : goal.fill-requires-clause-fit
 fill-requires-clause-fit g c =
-    subst (λ (l : List ℕ). end_of (with_files [] (files_of_bytes (Symbols STANDARD) l)) ≤ trial_capacity)
+    subst (λ (l : List ℕ). end_of (with_files [] (trial_files l)) ≤ trial_capacity)
     (sym c.in-Ok.ensures.bytes)
     (made_files_fit c.args.made.start c.args.made.wrong c.args.made.frames c.requires.few c.in-Ok.ensures.received)
 

@@ -1,0 +1,205 @@
+"""Images that lack packets: the files that `receive --mend N` puts onto a shelf, and their pixels beside those sent.
+
+An image is cut into bodies of one length, after a body with its header alone, and is sent in frames, from which some
+are left out. A second image follows, since a lost end comes with the next packet of its application. Where the first
+image is mended, the mark in its header tells the places of the packets that stand in. All pixels outside of them have to
+be those that were sent, and those of an image that isn't coded are 0 within them.
+"""
+
+from __future__ import annotations
+
+import argparse
+import binascii
+import dataclasses
+import os
+import pathlib
+import random
+import struct
+import subprocess
+import sys
+from collections.abc import Iterable, Iterator, Sequence
+
+sys.path.insert(0, str(pathlib.Path(__file__).resolve().parent.parent / "tools"))
+from gomtasil import shelf as shelves  # noqa: E402
+
+ZONE = 884
+IDLE = 2047
+NO_START = 2047
+COUNTS = 1 << 14
+COUNTERS = 1 << 24
+CHANNEL, APPLICATION = 13, 313
+RATES = (0.001, 0.005, 0.01, 0.02)
+FILLERS = (16, 64, 255)
+
+
+class Sender:
+    """Packets of one application with counts that go on, and their frames. Each file begins a frame."""
+
+    def __init__(self) -> None:
+        self.count = 0
+        self.counter = 0
+
+    def frames(self, bodies: Sequence[bytes]) -> Iterator[bytes]:
+        stream, starts = bytearray(), []
+        for place, body in enumerate(bodies):
+            flags = 1 if place == 0 else 2 if place == len(bodies) - 1 else 0
+            data = body + binascii.crc_hqx(body, 0xFFFF).to_bytes(2, "big")
+            starts.append(len(stream))
+            stream += struct.pack(">HHH", APPLICATION, flags << 14 | self.count, len(data) - 1) + data
+            self.count = (self.count + 1) % COUNTS
+        left = -len(stream) % ZONE
+        if left:
+            left += ZONE if left <= 6 else 0
+            starts.append(len(stream))
+            stream += struct.pack(">HHH", IDLE, 3 << 14, left - 7) + bytes(left - 6)
+        for first in range(0, len(stream), ZONE):
+            inside = [start - first for start in starts if first <= start < first + ZONE]
+            head = (1 << 14 | 7 << 6 | CHANNEL).to_bytes(2, "big") + self.counter.to_bytes(3, "big") + b"\0"
+            self.counter = (self.counter + 1) % COUNTERS
+            yield head + (inside[0] if inside else NO_START).to_bytes(2, "big") + bytes(stream[first : first + ZONE])
+
+
+@dataclasses.dataclass
+class Image:
+    """An image, and the bodies that it is sent in. A body after the first one has so many pixels."""
+
+    columns: int
+    lines: int
+    pixels: bytes
+    bodies: list[bytes]
+    pixels_in_body: int
+    coded: bool
+
+    def places(self, body: int) -> range:
+        """The pixels that stand in a body, counted from 0."""
+        first = (body - 1) * self.pixels_in_body
+        return range(max(first, 0), min(first + self.pixels_in_body, len(self.pixels))) if body else range(0)
+
+
+def plain_image(columns: int, lines: int, draw: random.Random) -> Image:
+    """An image that isn't coded, a line in each body."""
+    row = [draw.randrange(1, 256) for _ in range(columns)]
+    pixels = b"".join(bytes((value + line) % 255 + 1 for value in row) for line in range(lines))
+    records = struct.pack(">BHBHHB", 1, 9, 8, columns, lines, 0)
+    proper = struct.pack(">BHBIQ", 0, 16, 0, 16 + len(records), 8 * len(pixels)) + records
+    head = struct.pack(">HQ", 1, 8 * (len(proper) + len(pixels))) + proper
+    bodies = [head] + [pixels[at : at + columns] for at in range(0, len(pixels), columns)]
+    return Image(columns, lines, pixels, bodies, columns, False)
+
+
+class Station:
+    """The program over one shelf in a folder."""
+
+    def __init__(self, program: str, folder: pathlib.Path) -> None:
+        self.program = program
+        self.shelf = folder / "shelf"
+
+    def run(self, *words: str, data: bytes = b"") -> bytes:
+        ran = subprocess.run([self.program, str(self.shelf), *words], input=data, capture_output=True, check=False)
+        if ran.returncode:
+            sys.exit(f"trials/mend.sh: {' '.join(words)}: {ran.returncode} {ran.stderr.decode()}")
+        return ran.stdout
+
+    def fresh(self) -> None:
+        self.shelf.unlink(missing_ok=True)
+        self.run("init", "100000000")
+
+    def received(self, frames: bytes, mend: int) -> list[str]:
+        """The lines of the files of these frames, onto a new shelf."""
+        self.fresh()
+        words = ["receive", "--input", "frames"] + (["--mend", str(mend)] if mend else [])
+        lines = self.run(*words, data=frames).decode().splitlines()
+        return [line for line in lines if line.startswith("shelved ")]
+
+    def pixels(self) -> bytes:
+        """Those of the first file."""
+        return self.run("export", "0").split(b"\n", 3)[3]
+
+    def mark(self) -> list[int]:
+        """The places of the packets that stand in, from the first file's header."""
+        lines = [line for line in self.run("show", "0").decode().splitlines() if "gomtasil mended " in line]
+        runs = lines[-1].split("gomtasil mended ")[1].split(" of ")[0].split() if lines else []
+        places: list[int] = []
+        for run in runs:
+            first, _, last = run.partition("-")
+            places += range(int(first), int(last or first) + 1)
+        return places
+
+
+def coded_image(station: Station, image: Image) -> Image:
+    """The same image, each line coded by itself."""
+    station.received(b"".join(Sender().frames(image.bodies)), 0)
+    station.run("repack", "0", "16")
+    with shelves.Shelf(station.shelf) as shelf:
+        stored = shelf.load(list(shelf.heads())[1])
+    if stored is None:
+        sys.exit("trials/mend.sh: no coded image")
+    packets, size = stored.fields.packets, stored.fields.size
+    contents = stored.item[: -shelves.CHECKSUM_BYTES]
+    lengths = struct.unpack_from(f">{packets}H", contents, len(contents) - size - 2 * packets)
+    bodies, at = [], len(contents) - size
+    for length in lengths:
+        bodies.append(contents[at : at + length])
+        at += length
+    return dataclasses.replace(image, bodies=bodies, coded=True)
+
+
+def check(station: Station, image: Image, places: Iterable[int], what: str) -> None:
+    """All pixels outside of these packets are those that were sent."""
+    came = bytearray(station.pixels())
+    sent = bytearray(image.pixels)
+    if len(came) != len(sent):
+        sys.exit(f"trials/mend.sh: {what}: {len(came)} pixels in place of {len(sent)}")
+    for body in places:
+        inside = image.places(body)
+        if not image.coded and any(came[inside.start : inside.stop]):
+            sys.exit(f"trials/mend.sh: {what}: packet {body} isn't black")
+        sent[inside.start : inside.stop] = came[inside.start : inside.stop]
+    if came != sent:
+        sys.exit(f"trials/mend.sh: {what}: other pixels than those sent outside of {list(places)}")
+
+
+def row(station: Station, image: Image, rate: float, draws: int, seed: int) -> list[str]:
+    """One row of the table: how many images are whole, and with each N how many are mended and lost."""
+    draw = random.Random(seed)
+    sender = Sender()
+    first, second = list(sender.frames(image.bodies)), list(sender.frames(image.bodies))
+    whole = 0
+    mended = dict.fromkeys(FILLERS, 0)
+    lost = dict.fromkeys(FILLERS, 0)
+    for at in range(draws):
+        frames = b"".join([it for it in first if draw.random() >= rate] + second)
+        whole += len(station.received(frames, 0)) == 2
+        for most in FILLERS:
+            lines = station.received(frames, most)
+            fillers = int(lines[0].rsplit(" mended ", 1)[1])
+            what = f"{'coded' if image.coded else 'plain'}, {rate}, draw {at}, --mend {most}"
+            if len(lines) == 1:
+                lost[most] += 1
+                continue
+            places = station.mark() if fillers else []
+            if len(places) != fillers:
+                sys.exit(f"trials/mend.sh: {what}: {fillers} in the line, {len(places)} in the mark")
+            mended[most] += fillers > 0
+            check(station, image, places, what)
+    counts = [f"{mended[most]}, {lost[most]}" for most in FILLERS]
+    return ["coded" if image.coded else "plain", f"{rate * 100:g} %", str(whole), *counts]
+
+
+def main() -> None:
+    parser = argparse.ArgumentParser(description=__doc__)
+    parser.add_argument("folder", type=pathlib.Path)
+    parser.add_argument("--draws", type=int, default=100)
+    words = parser.parse_args()
+    station = Station(os.environ["LRITSTATION"], words.folder)
+    plain = plain_image(1330, 1330, random.Random(1))
+    coded = coded_image(station, plain)
+    print(f"plain {len(list(Sender().frames(plain.bodies)))} frames, coded {len(list(Sender().frames(coded.bodies)))}")
+    print("lines | frames lost | whole | " + " | ".join(f"N = {most}: mended, lost" for most in FILLERS))
+    for image in (plain, coded):
+        for seed, rate in enumerate(RATES):
+            print(" | ".join(row(station, image, rate, words.draws, seed)), flush=True)
+
+
+if __name__ == "__main__":
+    main()

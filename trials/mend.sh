@@ -1,0 +1,51 @@
+#!/bin/sh
+# Images that lack packets. First the sample of README, sent as symbols, with drawn symbols in place of those of six
+# frames: plain `receive` gives three of its six files, `receive --mend 64` all six, three of them whole. Then an image of
+# some 2,000 frames, coded and not, from which frames are left out at four rates, this many times each: how many come
+# whole, and with N of 16, 64 and 255 how many are mended and lost. All pixels outside of the places that the marks tell
+# have to be those that were sent.
+# Usage: trials/mend.sh [DRAWS], by default 100. Ten minutes with 100. Needs rt and python3. With another program in
+# LRITSTATION it is that one's.
+top=$(cd "$(dirname "$0")/.." && pwd)
+scratch=$(mktemp -d) || exit 1
+trap 'rm -rf "$scratch"' EXIT
+if [ -z "${LRITSTATION-}" ]; then
+    "$top/lritstation" - frames < /dev/null > "$scratch/build.log" 2>&1 || { cat "$scratch/build.log"; exit 1; }
+    LRITSTATION=$top/crates/lr_program/out/lr_program
+fi
+export LRITSTATION
+cd "$scratch" || exit 1
+
+fail() {
+    echo "trials/mend.sh: $1"
+    exit 1
+}
+
+# ---- six frames of the sample
+python3 "$top/tools/bin/gomtasil" sample > frames || fail "sample"
+"$LRITSTATION" sent init 30000000 > init.out && "$LRITSTATION" sent receive --input frames < frames > sent.out ||
+    fail "the sample isn't shelved"
+"$LRITSTATION" sent transmit 0 6 8 --line nrz-m --g2 plain > recording || fail "transmit"
+python3 - << 'END' || exit 1
+import random
+draw = random.Random(6)
+with open("recording", "r+b") as file:
+    for frame in (140, 193, 328, 363, 389, 417):
+        file.seek(frame * 16384)
+        file.write(bytes(draw.choice((40, 216)) for _ in range(16384)))
+END
+for words in '' '--mend 64'; do
+    rm -f shelf
+    "$LRITSTATION" shelf init 30000000 > init.out || fail "init"
+    # shellcheck disable=SC2086 # (the words of the option)
+    "$LRITSTATION" shelf receive --line nrz-m --g2 plain $words < recording > "out$words" || fail "receive $words"
+done
+[ "$(grep -c '^shelved ' out)" = 3 ] || fail "plain receive gave $(grep -c '^shelved ' out) files of six"
+[ "$(grep -c '^shelved .* mended [0-9]*$' 'out--mend 64')" = 6 ] || fail "--mend 64 gave $(grep -c '^shelved ' 'out--mend 64') files of six"
+[ "$(grep -c ' mended 0$' 'out--mend 64')" = 3 ] || fail "$(grep -c ' mended 0$' 'out--mend 64') files are whole, and not three"
+echo "the sample without six frames: 3 files of 6, and with --mend 64 6 of 6, $(sed -n 's/^shelved .* mended //p' 'out--mend 64' | paste -sd ' ') fillers"
+
+# ---- an image of 2,000 frames
+mkdir images
+python3 "$top/trials/mend.py" images --draws "${1:-100}" || exit 1
+echo "trials/mend.sh: passed"
