@@ -6,7 +6,6 @@ use crate::shared::{
 use lr_causes::{Cause, Refusal};
 use lr_disk::MemDisk;
 use lr_io::MemSink;
-use lr_trials_wanted::lines;
 use std::alloc::Global;
 use std::test::Fail;
 
@@ -85,7 +84,7 @@ fn without_first(alloc: Global) -> Result<MemDisk, Fail> {
     let mut made = with_two(alloc)?;
     let mut out = sink(alloc)?;
     let cause = discards(alloc, 0, &mut made, &mut out);
-    let is_said = is_end(cause, &out, 0, lines!(discarded 0;).as_bytes())?;
+    let is_said = is_end(cause, &out, 0, "discarded 0\n".as_bytes())?;
     if is_said && made.as_slice().len() == 141 {
         Ok(made)
     } else {
@@ -125,25 +124,21 @@ static VERIFIED: [Case; 5] = [
         Start::Two,
         Call::Verify,
         0,
-        lines!(
-            file 0 ok;
-            file 1 ok;
-        ),
+        "file 0 ok\n\
+         file 1 ok\n",
     ),
     Case(
         Start::WithoutFirst,
         Call::Verify,
         0,
-        lines!(
-            file 0 discarded;
-            file 1 ok;
-        ),
+        "file 0 discarded\n\
+         file 1 ok\n",
     ),
     Case(
         Start::Byte(59, 0x8C),
         Call::Verify,
         12,
-        lines!(file 0 bad stored "8CCA" computed "8BCA";),
+        "file 0 bad stored 8CCA computed 8BCA\n",
     ),
     Case(Start::Byte(32, 0x1B), Call::Verify, 6, ""),
     Case(Start::Byte(19, 0), Call::Verify, 0, ""),
@@ -156,7 +151,7 @@ static DISCARDED: [Case; 4] = [
         Start::WithoutFirst,
         Call::Discard(1),
         0,
-        lines!(discarded 1;),
+        "discarded 1\n",
     ),
     Case(Start::Byte(0, 0), Call::Discard(0), 6, ""),
 ];
@@ -167,7 +162,7 @@ static ROOM: [Case; 3] = [
         Start::Capacity(74),
         Call::Discard(0),
         0,
-        lines!(discarded 0;),
+        "discarded 0\n",
     ),
     Case(Start::Capacity(73), Call::Discard(1), 7, ""),
 ];

@@ -12,7 +12,7 @@ use lr_cmd_render::{render, render_alone};
 use lr_disk::MemDisk;
 use lr_io::MemSink;
 use lr_shelf::Shelf;
-use lr_trials_wanted::{is_status, is_text, lines};
+use lr_trials_support::{is_status, is_text};
 use std::alloc::Global;
 use std::sync::Wait;
 use std::test::Fail;
@@ -165,7 +165,7 @@ fn an_empty_shelf_has_no_image(rt: HostRuntime) -> Result<(), Fail> {
     let end = End {
         room: ROOM,
         status: 0,
-        line: lines!(rendered 0 skipped 0;),
+        line: "rendered 0 skipped 0\n",
         text: b"",
     };
     assert!(rt; ends(&rt, alloc, &mut disk, end)?);
@@ -179,7 +179,7 @@ fn files_without_an_image_are_skipped(rt: HostRuntime) -> Result<(), Fail> {
     let end = End {
         room: ROOM,
         status: 0,
-        line: lines!(rendered 1 skipped 1;),
+        line: "rendered 1 skipped 1\n",
         text: LINES_OF_FIVE,
     };
     assert!(rt; ends(&rt, alloc, &mut disk, end)?);
@@ -195,7 +195,7 @@ fn gone_entries_count_for_nothing(rt: HostRuntime) -> Result<(), Fail> {
     let end = End {
         room: ROOM,
         status: 0,
-        line: lines!(rendered 2 skipped 3;),
+        line: "rendered 2 skipped 3\n",
         text: &text,
     };
     assert!(rt; ends(&rt, alloc, &mut disk, end)?);
@@ -209,7 +209,7 @@ fn a_damaged_item_ends_the_run(rt: HostRuntime) -> Result<(), Fail> {
     let end = End {
         room: ROOM,
         status: 6,
-        line: lines!(station: not a shelf at 112;),
+        line: "station: not a shelf at 112\n",
         text: LINES_OF_FIVE,
     };
     assert!(rt; ends(&rt, alloc, &mut disk, end)?);
@@ -223,7 +223,7 @@ fn a_wrong_checksum_ends_the_run(rt: HostRuntime) -> Result<(), Fail> {
     let end = End {
         room: ROOM,
         status: 12,
-        line: lines!(station: bad checksum;),
+        line: "station: bad checksum\n",
         text: LINES_OF_FIVE,
     };
     assert!(rt; ends(&rt, alloc, &mut disk, end)?);
@@ -245,14 +245,14 @@ fn large_images_are_put_in_their_place(rt: HostRuntime) -> Result<(), Fail> {
     let whole = End {
         room: ROOM,
         status: 0,
-        line: lines!(rendered 3 skipped 1;),
+        line: "rendered 3 skipped 1\n",
         text: &text,
     };
     assert!(rt; ends(&rt, alloc, &mut disk, whole)?);
     let cut = End {
         room: 1_000,
         status: 5,
-        line: lines!(station: output failed;),
+        line: "station: output failed\n",
         text: text.get(..1_000).unwrap_or(b""),
     };
     assert!(rt; ends(&rt, alloc, &mut disk, cut)?);

@@ -9,7 +9,6 @@ use lr_disk::{Disk, MemDisk};
 use lr_io::{MemSink, Sink};
 use lr_shelf::Shelf;
 use lr_shelf_format::old_header_of;
-use lr_trials_wanted::lines;
 use std::alloc::Global;
 use std::test::Fail;
 
@@ -21,15 +20,13 @@ static IMAGE: [u8; 68] = [
     4, 5, 5, 5, 5, 5, 0x8E, 0x72, 0,
 ];
 
-const ONE_FILE: &str = lines!(file 0 ok;);
+const ONE_FILE: &str = "file 0 ok\n";
 
-const TWO_FILES: &str = lines!(
-    file 0 ok;
-    file 1 ok;
-);
+const TWO_FILES: &str = "file 0 ok\n\
+                         file 1 ok\n";
 
 /// The line of a shelf on which it was coded anew in blocks of 8, and the image of both files.
-const LINE: &str = lines!(repacked 0 as 1 bytes 51 to 48;);
+const LINE: &str = "repacked 0 as 1 bytes 51 to 48\n";
 
 static PICTURE: [u8; 27] =
     *b"P5\n8 2\n255\n\x05\x05\x05\x05\x05\x05\x05\x05\x05\x06\x04\x05\x05\x05\x05\x05";
@@ -144,7 +141,7 @@ fn origin_stays(alloc: Global) -> Result<bool, Fail> {
     let mut made = image_shelf(alloc, 1_000, 1_000, 0)?;
     let old = puts(alloc, 0, &mut made, 0, LINE)? && came_from(alloc, &mut made, 1, (0, 0, 0))?;
     add_again(alloc, &mut made)?;
-    let line = lines!(repacked 2 as 3 bytes 51 to 48;);
+    let line = "repacked 2 as 3 bytes 51 to 48\n";
     let new = puts(alloc, 2, &mut made, 0, line)? && came_from(alloc, &mut made, 3, (3, 4, 5))?;
     Ok(old && new)
 }
@@ -234,7 +231,7 @@ fn output_ends_it(alloc: Global) -> Result<bool, Fail> {
     let mut made = image_shelf(alloc, 1_000, 1_000, 0)?;
     let mut out: MemSink = with_room(alloc, 9)?;
     let cause = repacks(alloc, 0, &mut made, &mut out);
-    let words = lines!(repacked..).as_bytes();
+    let words = "repacked ".as_bytes();
     Ok(is_end(cause, &out, 5, words)? && has_files(alloc, &mut made, TWO_FILES)?)
 }
 

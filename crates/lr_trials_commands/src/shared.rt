@@ -10,7 +10,7 @@ use lr_disk::{Disk, MemDisk};
 use lr_io::{MemSink, Sink};
 use lr_shelf::Shelf;
 use lr_shelf_format::old_header_of;
-use lr_trials_wanted::{is_status, is_text};
+use lr_trials_support::{is_status, is_text};
 use std::alloc::Global;
 use std::test::Fail;
 

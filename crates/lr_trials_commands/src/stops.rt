@@ -3,19 +3,14 @@ use crate::shared::{
     OLD_SHELF, discards, disk, extracts, is_end, sink, verifies, with_room, with_two,
 };
 use lr_disk::MemDisk;
-use lr_trials_wanted::lines;
 use std::alloc::Global;
 use std::test::Fail;
 
-const BOTH: &str = lines!(
-    file 0 ok;
-    file 1 ok;
-);
+const BOTH: &str = "file 0 ok\n\
+                    file 1 ok\n";
 
-const FIRST_GONE: &str = lines!(
-    file 0 discarded;
-    file 1 ok;
-);
+const FIRST_GONE: &str = "file 0 discarded\n\
+                          file 1 ok\n";
 
 /// How many lines `verify` has for a gone entry at the front of this shelf, 0 or 1.
 fn is_discarded(alloc: Global, made: &mut MemDisk) -> Result<bool, Fail> {
@@ -55,8 +50,8 @@ fn extracts_into(alloc: Global, room: usize, status: u8) -> Result<bool, Fail> {
 #[test]
 fn the_line_comes_after_the_discard(rt: HostRuntime) -> Result<(), Fail> {
     let alloc = rt.alloc();
-    assert!(rt; discards_into(alloc, 12, 0, lines!(discarded 0;).as_bytes())?);
-    assert!(rt; discards_into(alloc, 10, 5, lines!(discarded..).as_bytes())?);
+    assert!(rt; discards_into(alloc, 12, 0, "discarded 0\n".as_bytes())?);
+    assert!(rt; discards_into(alloc, 10, 5, "discarded ".as_bytes())?);
     assert!(rt; discards_into(alloc, 0, 5, b"")?);
     Ok(())
 }

@@ -3,7 +3,7 @@ use lr_bits::NoMemory;
 use lr_disk::MemDisk;
 use lr_io::{MemSink, MemSource, Source};
 use lr_station::station_alone;
-use lr_trials_wanted::owned_words;
+use lr_trials_support::owned_words;
 use std::alloc::{AllocError, Global};
 
 /// Why a trial stopped before its end.

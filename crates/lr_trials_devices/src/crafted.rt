@@ -2,7 +2,6 @@
 use crate::calls::{Trouble, disk, ends_so, is_out, reading, run};
 use crate::steps::{Step, follows};
 use lr_disk::MemDisk;
-use lr_trials_wanted::lines;
 use std::alloc::Global;
 use std::test::Fail;
 
@@ -86,18 +85,18 @@ fn are_refused(
 #[test]
 fn a_broken_shelf_is_named_by_its_gate(rt: HostRuntime) -> Result<(), Fail> {
     let alloc = rt.alloc();
-    let first = lines!(station: not a shelf at 19;);
-    let second = lines!(station: not a shelf at 86;);
+    let first = "station: not a shelf at 19\n";
+    let second = "station: not a shelf at 86\n";
     assert!(rt; are_refused(alloc, &[], &CUT_OFF, &[], first)?);
     assert!(rt; are_refused(alloc, FILE, &CUT_OFF, &[], second)?);
     assert!(rt; are_refused(alloc, &[], &FIRST, CLOSED, first)?);
     assert!(rt; are_refused(alloc, FILE, &AFTER_A_FILE, CLOSED, second)?);
-    let third = lines!(station: not a shelf at 98;);
+    let third = "station: not a shelf at 98\n";
     assert!(rt; are_refused(alloc, FILE, &AFTER_A_DISCARD, CLOSED, third)?);
     Ok(())
 }
 
-const AT_19: &str = lines!(station: not a shelf at 19;);
+const AT_19: &str = "station: not a shelf at 19\n";
 
 /// A file of 26 bytes whose only length says 25: no command reads it, and it is discarded.
 static WITHOUT_THE_FILE: [Step; 6] = [
@@ -105,8 +104,8 @@ static WITHOUT_THE_FILE: [Step; 6] = [
     (&["verify"], 6, AT_19),
     (&["show", "0"], 6, AT_19),
     (&["extract", "0"], 6, AT_19),
-    (&["discard", "0"], 0, lines!(discarded 0;)),
-    (&["verify"], 0, lines!(file 0 discarded;)),
+    (&["discard", "0"], 0, "discarded 0\n"),
+    (&["verify"], 0, "file 0 discarded\n"),
 ];
 
 fn lengths_do_not_sum(alloc: Global) -> Result<bool, Fail> {
@@ -148,21 +147,21 @@ static PASSED: [Step; 4] = [
     (
         &["extract", "9999"],
         6,
-        lines!(station: not a shelf at 509968;),
+        "station: not a shelf at 509968\n",
     ),
     (
         &["extract", "10000"],
         7,
-        lines!(station: no such file, count 10000;),
+        "station: no such file, count 10000\n",
     ),
-    (&["discard", "9999"], 0, lines!(discarded 9999;)),
+    (&["discard", "9999"], 0, "discarded 9999\n"),
 ];
 
 /// The last one is no item, so there is no shelf.
 static BROKEN_OFF: [Step; 1] = [(
     &["extract", "0"],
     6,
-    lines!(station: not a shelf at 510019;),
+    "station: not a shelf at 510019\n",
 )];
 
 fn follows_damaged(alloc: Global, last: &[u8], steps: &[Step]) -> Result<bool, Fail> {

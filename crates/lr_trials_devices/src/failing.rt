@@ -3,7 +3,6 @@ use crate::calls::{Call, Trouble, disk, ends_so, is_front, is_out, line_count, r
 use crate::given::{FILE_7, FILE_8, FRAMES};
 use crate::jobs::{DISCARD, INIT, Job, RECEIVE, TRIAL, progress};
 use crate::steps::follows;
-use lr_trials_wanted::lines;
 use std::alloc::Global;
 use std::test::Fail;
 
@@ -45,7 +44,7 @@ fn disk_fails(alloc: Global, job: &Job, number: u64) -> Result<Option<bool>, Tro
     let mut left = disk(alloc, made.as_slice())?;
     let reached = progress(alloc, job, &mut left)?;
     Ok(Some(
-        ends_so(&printed, 4, lines!(station: disk failed;))
+        ends_so(&printed, 4, "station: disk failed\n")
             && is_front(&printed, job.text)
             && reached.is_some_and(|place| line_count(&printed) <= place),
     ))
@@ -61,7 +60,7 @@ fn out_fails(alloc: Global, job: &Job, place: u64) -> Result<Option<bool>, Troub
     if printed.status == 0 {
         return Ok(verdict_when_done(place < put));
     }
-    let wanted = if job.text.starts_with(lines!(shelved..)) {
+    let wanted = if job.text.starts_with("shelved ") {
         line_count(&printed).saturating_add(1).min(job.whole)
     } else {
         job.whole
@@ -69,7 +68,7 @@ fn out_fails(alloc: Global, job: &Job, place: u64) -> Result<Option<bool>, Troub
     let mut left = disk(alloc, made.as_slice())?;
     let reached = progress(alloc, job, &mut left)?;
     Ok(Some(
-        ends_so(&printed, 5, lines!(station: output failed;))
+        ends_so(&printed, 5, "station: output failed\n")
             && put == place
             && is_front(&printed, job.text)
             && reached == Some(wanted),
@@ -78,16 +77,12 @@ fn out_fails(alloc: Global, job: &Job, place: u64) -> Result<Option<bool>, Troub
 
 /// What `receive` prints of this many frames, up to the words of its last line.
 const LINES: [&str; 3] = [
-    lines!(symbols..),
-    lines!(
-        shelved 0 vc 0 apid 100 counter 7 bytes 26 packets 1;
-        symbols ..
-    ),
-    lines!(
-        shelved 0 vc 0 apid 100 counter 7 bytes 26 packets 1;
-        shelved 1 vc 0 apid 100 counter 8 bytes 26 packets 1;
-        symbols ..
-    ),
+    "symbols ",
+    "shelved 0 vc 0 apid 100 counter 7 bytes 26 packets 1\n\
+     symbols ",
+    "shelved 0 vc 0 apid 100 counter 7 bytes 26 packets 1\n\
+     shelved 1 vc 0 apid 100 counter 8 bytes 26 packets 1\n\
+     symbols ",
 ];
 
 /// The source fails at this place: the files of the frames before it are there, and the last line says so.
@@ -104,9 +99,9 @@ fn source_fails(alloc: Global, job: &Job, place: u64) -> Result<Option<bool>, Tr
     let reached = progress(alloc, job, &mut left)?;
     let out = printed.out.as_slice();
     Ok(Some(
-        ends_so(&printed, 3, lines!(station: source failed;))
+        ends_so(&printed, 3, "station: source failed\n")
             && out.starts_with(LINES[whole].as_bytes())
-            && out.ends_with(lines!(.. stop fault;).as_bytes())
+            && out.ends_with(" stop fault\n".as_bytes())
             && line_count(&printed) == whole + 1
             && reached == Some(whole),
     ))
@@ -162,7 +157,7 @@ fn err_fails(alloc: Global) -> Result<bool, Fail> {
         alloc,
         &mut made,
         &[],
-        &[(&["init", "86"], 0, lines!(shelf capacity 86;))],
+        &[(&["init", "86"], 0, "shelf capacity 86\n")],
     )?;
     let mut call = reading(&FRAMES, &[FILE_7]);
     call.err_room = 0;

@@ -2,55 +2,47 @@
 use crate::calls::{Trouble, is_out, reading, run};
 use crate::given::{BOTH, EMPTY, FRAMES};
 use lr_disk::MemDisk;
-use lr_trials_wanted::lines;
 use std::alloc::Global;
 
 /// What `list` prints of an empty shelf, of one with the first file, and of one with both.
 const RECEIVED: [&str; 3] = [
-    lines!(files 0 used 20 capacity 65536;),
-    lines!(
-        file 0 vc 0 apid 100 counter 7 bytes 26 packets 1 declared 136 real 128 differs type 2 frames 0 0 corrected 0;
-        files 1 used 87 capacity 65536;
-    ),
-    lines!(
-        file 0 vc 0 apid 100 counter 7 bytes 26 packets 1 declared 136 real 128 differs type 2 frames 0 0 corrected 0;
-        file 1 vc 0 apid 100 counter 8 bytes 26 packets 1 declared 136 real 128 differs type 2 frames 1 1 corrected 0;
-        files 2 used 154 capacity 65536;
-    ),
+    "files 0 used 20 capacity 65536\n",
+    "\
+        file 0 vc 0 apid 100 counter 7 bytes 26 packets 1 declared 136 real 128 differs type 2 frames 0 0 corrected 0\n\
+        files 1 used 87 capacity 65536\n",
+    "\
+        file 0 vc 0 apid 100 counter 7 bytes 26 packets 1 declared 136 real 128 differs type 2 frames 0 0 corrected 0\n\
+        file 1 vc 0 apid 100 counter 8 bytes 26 packets 1 declared 136 real 128 differs type 2 frames 1 1 corrected 0\n\
+        files 2 used 154 capacity 65536\n",
 ];
 
 /// What it prints of both files, and of both when the first one is discarded.
 const DISCARDED: [&str; 2] = [
-    lines!(
-        file 0 vc 0 apid 100 counter 7 bytes 26 packets 1 declared 136 real 128 differs type 2 frames 0 0 corrected 0;
-        file 1 vc 0 apid 100 counter 8 bytes 26 packets 1 declared 136 real 128 differs type 2 frames 1 1 corrected 0;
-        files 2 used 154 capacity 65536;
-    ),
-    lines!(
-        file 0 discarded;
-        file 1 vc 0 apid 100 counter 8 bytes 26 packets 1 declared 136 real 128 differs type 2 frames 1 1 corrected 0;
-        files 2 used 166 capacity 65536;
-    ),
+    "\
+        file 0 vc 0 apid 100 counter 7 bytes 26 packets 1 declared 136 real 128 differs type 2 frames 0 0 corrected 0\n\
+        file 1 vc 0 apid 100 counter 8 bytes 26 packets 1 declared 136 real 128 differs type 2 frames 1 1 corrected 0\n\
+        files 2 used 154 capacity 65536\n",
+    "\
+        file 0 discarded\n\
+        file 1 vc 0 apid 100 counter 8 bytes 26 packets 1 declared 136 real 128 differs type 2 frames 1 1 corrected 0\n\
+        files 2 used 166 capacity 65536\n",
 ];
 
 /// What it prints of the first files of the test stream, which have 278 bytes each on a shelf.
 const TRIED: [&str; 4] = [
-    lines!(files 0 used 20 capacity 1048576;),
-    lines!(
-        file 0 vc 5 apid 200 counter 0 bytes 237 packets 1 declared 1816 real 1816 same type 2 frames 2 2 corrected 0;
-        files 1 used 298 capacity 1048576;
-    ),
-    lines!(
-        file 0 vc 5 apid 200 counter 0 bytes 237 packets 1 declared 1816 real 1816 same type 2 frames 2 2 corrected 0;
-        file 1 vc 5 apid 200 counter 1 bytes 237 packets 1 declared 1816 real 1816 same type 2 frames 2 2 corrected 0;
-        files 2 used 576 capacity 1048576;
-    ),
-    lines!(
-        file 0 vc 5 apid 200 counter 0 bytes 237 packets 1 declared 1816 real 1816 same type 2 frames 2 2 corrected 0;
-        file 1 vc 5 apid 200 counter 1 bytes 237 packets 1 declared 1816 real 1816 same type 2 frames 2 2 corrected 0;
-        file 2 vc 5 apid 200 counter 2 bytes 237 packets 1 declared 1816 real 1816 same type 2 frames 2 2 corrected 0;
-        files 3 used 854 capacity 1048576;
-    ),
+    "files 0 used 20 capacity 1048576\n",
+    "\
+        file 0 vc 5 apid 200 counter 0 bytes 237 packets 1 declared 1816 real 1816 same type 2 frames 2 2 corrected 0\n\
+        files 1 used 298 capacity 1048576\n",
+    "\
+        file 0 vc 5 apid 200 counter 0 bytes 237 packets 1 declared 1816 real 1816 same type 2 frames 2 2 corrected 0\n\
+        file 1 vc 5 apid 200 counter 1 bytes 237 packets 1 declared 1816 real 1816 same type 2 frames 2 2 corrected 0\n\
+        files 2 used 576 capacity 1048576\n",
+    "\
+        file 0 vc 5 apid 200 counter 0 bytes 237 packets 1 declared 1816 real 1816 same type 2 frames 2 2 corrected 0\n\
+        file 1 vc 5 apid 200 counter 1 bytes 237 packets 1 declared 1816 real 1816 same type 2 frames 2 2 corrected 0\n\
+        file 2 vc 5 apid 200 counter 2 bytes 237 packets 1 declared 1816 real 1816 same type 2 frames 2 2 corrected 0\n\
+        files 3 used 854 capacity 1048576\n",
 ];
 
 /// The station's work on a disk.
@@ -75,11 +67,9 @@ pub(crate) static RECEIVE: Job = Job {
     words: &FRAMES,
     before: EMPTY,
     making: None,
-    text: lines!(
-        shelved 0 vc 0 apid 100 counter 7 bytes 26 packets 1;
-        shelved 1 vc 0 apid 100 counter 8 bytes 26 packets 1;
-        symbols 1784 frames 2 restored 2 lost 0 packets 2 files 2 left 0 stop end;
-    ),
+    text: "shelved 0 vc 0 apid 100 counter 7 bytes 26 packets 1\n\
+           shelved 1 vc 0 apid 100 counter 8 bytes 26 packets 1\n\
+           symbols 1784 frames 2 restored 2 lost 0 packets 2 files 2 left 0 stop end\n",
     lists: &RECEIVED,
     whole: 2,
     adds: true,
@@ -90,8 +80,8 @@ pub(crate) static INIT: Job = Job {
     words: &["init", "65536"],
     before: &[],
     making: Some(&["init", "65536"]),
-    text: lines!(shelf capacity 65536;),
-    lists: &[lines!(files 0 used 20 capacity 65536;)],
+    text: "shelf capacity 65536\n",
+    lists: &["files 0 used 20 capacity 65536\n"],
     whole: 0,
     adds: true,
 };
@@ -101,7 +91,7 @@ pub(crate) static DISCARD: Job = Job {
     words: &["discard", "0"],
     before: BOTH,
     making: None,
-    text: lines!(discarded 0;),
+    text: "discarded 0\n",
     lists: &DISCARDED,
     whole: 1,
     adds: false,
@@ -112,7 +102,7 @@ pub(crate) static TRIAL: Job = Job {
     words: &["trial", "1", "3", "0"],
     before: &[],
     making: Some(&["init", "1048576"]),
-    text: lines!(symbols 49152 frames 3 restored 3 lost 0 packets 27 files 3 left 0 stop end;),
+    text: "symbols 49152 frames 3 restored 3 lost 0 packets 27 files 3 left 0 stop end\n",
     lists: &TRIED,
     whole: 3,
     adds: true,

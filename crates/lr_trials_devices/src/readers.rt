@@ -2,7 +2,6 @@
 use crate::calls::{Trouble, bytes_of, disk, ends_so, is_out, reading, run_from};
 use crate::given::{EMPTY, FILE_7, FILE_8, FRAMES};
 use lr_io::{ReadSource, Source, StdReader};
-use lr_trials_wanted::lines;
 use std::alloc::Global;
 use std::io::{self, ErrorKind, Read};
 use std::test::Fail;
@@ -64,10 +63,8 @@ fn loses_nothing(alloc: Global) -> Result<bool, Trouble> {
     Ok(first && failed && last && take(&mut source) == Some((0, 0)))
 }
 
-const ONE_FILE: &str = lines!(
-    shelved 0 vc 0 apid 100 counter 7 bytes 26 packets 1;
-    symbols 892 frames 1 restored 1 lost 0 packets 1 files 1 left 0 stop fault;
-);
+const ONE_FILE: &str = "shelved 0 vc 0 apid 100 counter 7 bytes 26 packets 1\n\
+                        symbols 892 frames 1 restored 1 lost 0 packets 1 files 1 left 0 stop fault\n";
 
 /// Of two frames the first is read, and then the reader fails: the station doesn't ask again.
 fn ends_the_input(alloc: Global) -> Result<bool, Trouble> {
@@ -75,7 +72,7 @@ fn ends_the_input(alloc: Global) -> Result<bool, Trouble> {
     let mut source = failing_source(bytes_of(alloc, &[FILE_7, FILE_8])?);
     let printed = run_from(alloc, &mut made, reading(&FRAMES, &[]), &mut source)?;
     Ok(
-        ends_so(&printed, 3, lines!(station: source failed;))
+        ends_so(&printed, 3, "station: source failed\n")
             && is_out(&printed, ONE_FILE)
             && reads(&source) == 2,
     )

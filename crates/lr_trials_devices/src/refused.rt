@@ -2,7 +2,6 @@
 use crate::calls::{Trouble, disk, ends_so, is_front, is_out, line_count, reading, run};
 use crate::given::{FILE_7, FILE_8};
 use crate::jobs::{DISCARD, INIT, Job, RECEIVE, TRIAL, progress};
-use lr_trials_wanted::lines;
 use std::alloc::Global;
 
 /// Whether the job is done, or ends with 9 and leaves what was acknowledged and nothing else. `trial` acknowledges
@@ -17,9 +16,9 @@ fn ends(alloc: Global, job: &Job) -> Result<bool, Trouble> {
     if ends_so(&printed, 0, "") {
         return Ok(reached == job.whole && is_out(&printed, job.text));
     }
-    let acknowledged = line_count(&printed) == reached || job.text.starts_with(lines!(symbols..));
+    let acknowledged = line_count(&printed) == reached || job.text.starts_with("symbols ");
     Ok(
-        ends_so(&printed, 9, lines!(station: no memory;))
+        ends_so(&printed, 9, "station: no memory\n")
             && is_front(&printed, job.text)
             && acknowledged,
     )

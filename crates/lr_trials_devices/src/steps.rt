@@ -1,7 +1,7 @@
 //! Calls one after another, and what each must print.
 use crate::calls::{reading, run};
 use lr_disk::MemDisk;
-use lr_trials_wanted::{is_status, is_text};
+use lr_trials_support::{is_status, is_text};
 use std::alloc::Global;
 use std::test::Fail;
 

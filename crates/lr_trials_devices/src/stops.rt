@@ -3,7 +3,6 @@ use crate::calls::{Trouble, disk, ends_so, is_out, reading, run};
 use crate::given::{FILE_7, FILE_8, FRAMES};
 use crate::jobs::{DISCARD, INIT, Job, RECEIVE, TRIAL, progress};
 use lr_disk::MemDisk;
-use lr_trials_wanted::lines;
 use std::alloc::Global;
 use std::test::Fail;
 
@@ -28,22 +27,14 @@ fn disk_after_stop(alloc: Global, made: &MemDisk, call: u64, kind: u8) -> Result
 
 /// What is printed of a further file, by its number.
 const NEXT: [&str; 4] = [
-    lines!(
-        shelved 0 vc 0 apid 100 counter 7 bytes 26 packets 1;
-        symbols 892 frames 1 restored 1 lost 0 packets 1 files 1 left 0 stop end;
-    ),
-    lines!(
-        shelved 1 vc 0 apid 100 counter 7 bytes 26 packets 1;
-        symbols 892 frames 1 restored 1 lost 0 packets 1 files 1 left 0 stop end;
-    ),
-    lines!(
-        shelved 2 vc 0 apid 100 counter 7 bytes 26 packets 1;
-        symbols 892 frames 1 restored 1 lost 0 packets 1 files 1 left 0 stop end;
-    ),
-    lines!(
-        shelved 3 vc 0 apid 100 counter 7 bytes 26 packets 1;
-        symbols 892 frames 1 restored 1 lost 0 packets 1 files 1 left 0 stop end;
-    ),
+    "shelved 0 vc 0 apid 100 counter 7 bytes 26 packets 1\n\
+     symbols 892 frames 1 restored 1 lost 0 packets 1 files 1 left 0 stop end\n",
+    "shelved 1 vc 0 apid 100 counter 7 bytes 26 packets 1\n\
+     symbols 892 frames 1 restored 1 lost 0 packets 1 files 1 left 0 stop end\n",
+    "shelved 2 vc 0 apid 100 counter 7 bytes 26 packets 1\n\
+     symbols 892 frames 1 restored 1 lost 0 packets 1 files 1 left 0 stop end\n",
+    "shelved 3 vc 0 apid 100 counter 7 bytes 26 packets 1\n\
+     symbols 892 frames 1 restored 1 lost 0 packets 1 files 1 left 0 stop end\n",
 ];
 
 /// Whether a further file is received, and gets this number.

@@ -8,7 +8,7 @@ use lr_trials_station::sessions::{
 };
 use lr_trials_station::shelves::{FRAMES, TWO_FILES, empty_shelf};
 use lr_trials_station::stated::{FRAME, header, idle};
-use lr_trials_wanted::{is_text, lines};
+use lr_trials_support::is_text;
 use std::alloc::Global;
 use std::test::Fail;
 
@@ -229,7 +229,7 @@ static HEADERS: [Case; 9] = [
     Case {
         first: &[Body(&CODED, &[(10, 1)]), FIRST_BODY, SECOND_BODY],
         runs: &[Run {
-            line: lines!(station: cannot export: "headers";),
+            line: "station: cannot export: headers\n",
             ..REFUSED
         }],
         ..NO_CASE
@@ -237,7 +237,7 @@ static HEADERS: [Case; 9] = [
     Case {
         first: &[Body(&CODED, &[(13, 2)]), FIRST_BODY, SECOND_BODY],
         runs: &[Run {
-            line: lines!(station: cannot export: "not-image";),
+            line: "station: cannot export: not-image\n",
             ..REFUSED
         }],
         ..NO_CASE
@@ -245,7 +245,7 @@ static HEADERS: [Case; 9] = [
     Case {
         first: &[Body(&CODED, &[(26, 9)]), FIRST_BODY, SECOND_BODY],
         runs: &[Run {
-            line: lines!(station: cannot export: "no-structure";),
+            line: "station: cannot export: no-structure\n",
             ..REFUSED
         }],
         ..NO_CASE
@@ -253,7 +253,7 @@ static HEADERS: [Case; 9] = [
     Case {
         first: &[Body(&CODED, &[(34, 2)]), FIRST_BODY, SECOND_BODY],
         runs: &[Run {
-            line: lines!(station: cannot export: "compression";),
+            line: "station: cannot export: compression\n",
             ..REFUSED
         }],
         ..NO_CASE
@@ -261,7 +261,7 @@ static HEADERS: [Case; 9] = [
     Case {
         first: &[Body(&CODED, &[(29, 4)]), FIRST_BODY, SECOND_BODY],
         runs: &[Run {
-            line: lines!(station: cannot export: "depth";),
+            line: "station: cannot export: depth\n",
             ..REFUSED
         }],
         ..NO_CASE
@@ -269,7 +269,7 @@ static HEADERS: [Case; 9] = [
     Case {
         first: &[Body(&CODED, &[(31, 0)]), FIRST_BODY, SECOND_BODY],
         runs: &[Run {
-            line: lines!(station: cannot export: "empty";),
+            line: "station: cannot export: empty\n",
             ..REFUSED
         }],
         ..NO_CASE
@@ -277,7 +277,7 @@ static HEADERS: [Case; 9] = [
     Case {
         first: &[Body(&CODED, &[(39, 17)]), FIRST_BODY, SECOND_BODY],
         runs: &[Run {
-            line: lines!(station: cannot export: "flags";),
+            line: "station: cannot export: flags\n",
             ..REFUSED
         }],
         ..NO_CASE
@@ -285,7 +285,7 @@ static HEADERS: [Case; 9] = [
     Case {
         first: &[Body(&CODED, &[(40, 7)]), FIRST_BODY, SECOND_BODY],
         runs: &[Run {
-            line: lines!(station: cannot export: "block-size";),
+            line: "station: cannot export: block-size\n",
             ..REFUSED
         }],
         ..NO_CASE
@@ -293,7 +293,7 @@ static HEADERS: [Case; 9] = [
     Case {
         first: &[Body(&CODED, &[(41, 0)]), FIRST_BODY, SECOND_BODY],
         runs: &[Run {
-            line: lines!(station: cannot export: "lines-per-packet";),
+            line: "station: cannot export: lines-per-packet\n",
             ..REFUSED
         }],
         ..NO_CASE
@@ -304,7 +304,7 @@ static FIELDS: [Case; 4] = [
     Case {
         first: &[Body(&KEYED, &[(46, 1)]), FIRST_BODY, SECOND_BODY],
         runs: &[Run {
-            line: lines!(station: cannot export: "encrypted";),
+            line: "station: cannot export: encrypted\n",
             ..REFUSED
         }],
         ..NO_CASE
@@ -312,7 +312,7 @@ static FIELDS: [Case; 4] = [
     Case {
         first: &[CODED_BODY, FIRST_BODY, Body(&[0x40, 0xAA], &[])],
         runs: &[Run {
-            line: lines!(station: cannot export: "rice";),
+            line: "station: cannot export: rice\n",
             ..REFUSED
         }],
         ..NO_CASE
@@ -320,7 +320,7 @@ static FIELDS: [Case; 4] = [
     Case {
         first: &[CODED_BODY, FIRST_BODY],
         runs: &[Run {
-            line: lines!(station: cannot export: "short";),
+            line: "station: cannot export: short\n",
             ..REFUSED
         }],
         ..NO_CASE
@@ -328,7 +328,7 @@ static FIELDS: [Case; 4] = [
     Case {
         first: &[Body(&CODED, &[(30, 0xFF), (32, 0xFF)])],
         runs: &[Run {
-            line: lines!(station: cannot export: "too-large";),
+            line: "station: cannot export: too-large\n",
             ..REFUSED
         }],
         ..NO_CASE
@@ -369,13 +369,13 @@ fn stream_disk(alloc: Global) -> Result<MemDisk, Fail> {
 
 const NOT_EXPORTED: [Run; 2] = [
     Run {
-        line: lines!(station: cannot export: "not-image";),
+        line: "station: cannot export: not-image\n",
         ..REFUSED
     },
     Run {
         words: &["export", "63"],
         status: 7,
-        line: lines!(station: no such file, count 63;),
+        line: "station: no such file, count 63\n",
         ..QUIET
     },
 ];
@@ -417,13 +417,13 @@ const ASSEMBLED: Run = Run {
 
 const NO_SEGMENT: Run = Run {
     status: 8,
-    line: lines!(station: cannot export: "no-segment";),
+    line: "station: cannot export: no-segment\n",
     ..QUIET
 };
 
 const TWO: Run = Run {
     status: 7,
-    line: lines!(station: no such file, count 2;),
+    line: "station: no such file, count 2\n",
     ..QUIET
 };
 
@@ -438,7 +438,7 @@ static TOGETHER: [Case; 1] = [Case {
     runs: &[
         Run {
             out: "P5\n2 2\n255\n\u{1}\u{9}\0\0",
-            line: lines!(assembled 2 skipped 0 uncovered 2;),
+            line: "assembled 2 skipped 0 uncovered 2\n",
             ..ASSEMBLED
         },
         Run {
@@ -481,7 +481,7 @@ static SKIPPED_OR_GONE: [Case; 2] = [
         ],
         runs: &[Run {
             out: "P5\n2 2\n255\n\u{1}\u{2}\0\0",
-            line: lines!(assembled 1 skipped 1 uncovered 2;),
+            line: "assembled 1 skipped 1 uncovered 2\n",
             ..ASSEMBLED
         }],
         ..SEGMENTS
@@ -490,12 +490,12 @@ static SKIPPED_OR_GONE: [Case; 2] = [
         runs: &[
             Run {
                 words: &["discard", "0"],
-                out: lines!(discarded 0;),
+                out: "discarded 0\n",
                 ..QUIET
             },
             Run {
                 out: "P5\n2 2\n255\n\0\u{9}\0\0",
-                line: lines!(assembled 1 skipped 0 uncovered 3;),
+                line: "assembled 1 skipped 0 uncovered 3\n",
                 ..ASSEMBLED
             },
         ],
@@ -509,7 +509,7 @@ const FITS_NOT: Run = Run {
 };
 
 const OUTSIDE: Run = Run {
-    line: lines!(station: cannot export: "outside";),
+    line: "station: cannot export: outside\n",
     ..FITS_NOT
 };
 
@@ -521,7 +521,7 @@ static REFUSED_SEGMENTS: [Case; 5] = [
             Body(&[9, 9], &[]),
         ],
         runs: &[Run {
-            line: lines!(station: cannot export: "depths";),
+            line: "station: cannot export: depths\n",
             ..FITS_NOT
         }],
         ..SEGMENTS
@@ -541,7 +541,7 @@ static REFUSED_SEGMENTS: [Case; 5] = [
         first: &[Body(&SEGMENT, &[(49, 0)]), Body(&[1, 2], &[])],
         second: &[Body(&SEGMENT, &[]), Body(&[1, 2], &[])],
         runs: &[Run {
-            line: lines!(station: cannot export: "empty";),
+            line: "station: cannot export: empty\n",
             ..FITS_NOT
         }],
         ..NO_CASE
@@ -553,7 +553,7 @@ static REFUSED_SEGMENTS: [Case; 5] = [
         ],
         second: &[Body(&SEGMENT, &[]), Body(&[1, 2], &[])],
         runs: &[Run {
-            line: lines!(station: cannot export: "too-large";),
+            line: "station: cannot export: too-large\n",
             ..FITS_NOT
         }],
         ..NO_CASE

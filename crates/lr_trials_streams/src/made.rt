@@ -3,7 +3,6 @@ use lr_disk::MemDisk;
 use lr_trials_coding::streams::{bytes_of, leave_hits, silence};
 use lr_trials_station::call::{Input, NEVER, Room, done_with, ends_on, gives_alone, written_bytes};
 use lr_trials_station::sessions::{OVER, Piece, QUIET, Run, Session, hold, input_of};
-use lr_trials_wanted::lines;
 use std::alloc::Global;
 use std::test::Fail;
 
@@ -43,7 +42,7 @@ pub(crate) const LINES: Room = Room {
 /// A shelf of the capacity 65,536 is made.
 pub(crate) const MADE: Run = Run {
     words: &["init", "65536"],
-    out: lines!(shelf capacity 65536;),
+    out: "shelf capacity 65536\n",
     ..QUIET
 };
 
@@ -57,19 +56,19 @@ const RECEIVED: Run = Run {
 
 const AFTER: Run = Run {
     input: &[SILENCE, FRAMES],
-    out: lines!(symbols 1049276 frames 64 restored 64 lost 0 packets 452 files 63 left 0 stop end;),
+    out: "symbols 1049276 frames 64 restored 64 lost 0 packets 452 files 63 left 0 stop end\n",
     ..RECEIVED
 };
 
 const EIGHT: &str =
-    lines!(symbols 131072 frames 8 restored 8 lost 0 packets 56 files 7 left 0 stop end;);
+    "symbols 131072 frames 8 restored 8 lost 0 packets 56 files 7 left 0 stop end\n";
 
 const SEVEN: &str =
-    lines!(symbols 131072 frames 7 restored 7 lost 0 packets 42 files 7 left 0 stop end;);
+    "symbols 131072 frames 7 restored 7 lost 0 packets 42 files 7 left 0 stop end\n";
 
 const MISSING: Run = Run {
     status: 7,
-    line: lines!(station: no such file, count 63;),
+    line: "station: no such file, count 63\n",
     ..QUIET
 };
 
@@ -78,37 +77,29 @@ static EACH_FORM: [Session; 1] = [Session {
         Run {
             words: &["decode"],
             input: &[ONE_FRAME],
-            out: lines!(
-                window 0 at 0 polarity + restored 0 0 0 0;
-                symbols 16384 frames 1 restored 1 lost 0 left 0 stop end;
-            ),
+            out: "window 0 at 0 polarity + restored 0 0 0 0\n\
+                  symbols 16384 frames 1 restored 1 lost 0 left 0 stop end\n",
             ..QUIET
         },
         Run {
             words: &["decode"],
             input: &[Piece::Written(&["make", "1", "1", "16"], FRAME)],
-            out: lines!(
-                window 0 at 0 polarity + restored 16 16 16 16;
-                symbols 16384 frames 1 restored 1 lost 0 left 0 stop end;
-            ),
+            out: "window 0 at 0 polarity + restored 16 16 16 16\n\
+                  symbols 16384 frames 1 restored 1 lost 0 left 0 stop end\n",
             ..QUIET
         },
         Run {
             words: &["decode", "--input", "blocks"],
             input: &[Piece::Written(&["make", "1", "1", "3", "--output", "blocks"], 1_020)],
-            out: lines!(
-                block 0 restored 3 3 3 3;
-                symbols 1020 frames 1 restored 1 lost 0 left 0 stop end;
-            ),
+            out: "block 0 restored 3 3 3 3\n\
+                  symbols 1020 frames 1 restored 1 lost 0 left 0 stop end\n",
             ..QUIET
         },
         Run {
             words: &["frames"],
             input: &[Piece::Written(&["make", "1", "1", "3", "--output", "frames"], 892)],
-            out: lines!(
-                frame 0 vc 0 counter 0 spacecraft 7 replay 0 pointer 0;
-                frames 1 left 0 stop end;
-            ),
+            out: "frame 0 vc 0 counter 0 spacecraft 7 replay 0 pointer 0\n\
+                  frames 1 left 0 stop end\n",
             ..QUIET
         },
     ],
@@ -122,7 +113,7 @@ static ALL_SYMBOLS: [Session; 3] = [
             MADE,
             Run {
                 input: &[ONE_FRAME],
-                out: lines!(symbols 16384 frames 1 restored 1 lost 0 packets 12 files 0 left 0 stop end;),
+                out: "symbols 16384 frames 1 restored 1 lost 0 packets 12 files 0 left 0 stop end\n",
                 ..RECEIVED
             },
         ],
@@ -134,7 +125,7 @@ static ALL_SYMBOLS: [Session; 3] = [
             MADE,
             Run {
                 input: &[ONE_FRAME, Piece::Less(1)],
-                out: lines!(symbols 16383 frames 0 restored 0 lost 0 packets 0 files 0 left 0 stop end;),
+                out: "symbols 16383 frames 0 restored 0 lost 0 packets 0 files 0 left 0 stop end\n",
                 ..RECEIVED
             },
         ],
@@ -146,7 +137,7 @@ static ALL_SYMBOLS: [Session; 3] = [
             MADE,
             Run {
                 input: &[ONE_FRAME, Piece::Same(12, 0)],
-                out: lines!(symbols 16396 frames 1 restored 1 lost 0 packets 12 files 0 left 0 stop end;),
+                out: "symbols 16396 frames 1 restored 1 lost 0 packets 12 files 0 left 0 stop end\n",
                 ..RECEIVED
             },
         ],
@@ -166,7 +157,7 @@ static ANY_READS: [Session; 2] = [
             MADE,
             Run {
                 input: &[Piece::Written(&["make", "1", "64", "16"], ALL)],
-                out: lines!(symbols 1048576 frames 64 restored 64 lost 0 packets 452 files 63 left 0 stop end;),
+                out: "symbols 1048576 frames 64 restored 64 lost 0 packets 452 files 63 left 0 stop end\n",
                 ..RECEIVED
             },
         ],
@@ -175,17 +166,15 @@ static ANY_READS: [Session; 2] = [
 ];
 
 /// The file with the image of 64 lines, and its header.
-const IMAGE: &str = lines!(
-    file 7 vc 0 apid 100 counter 0 bytes 4131 packets 65 declared 32968 real 32968 same type 0 frames 0 9 corrected 0;
-    record 0 length 16 primary type 0 header 25 bits 32768;
-    record 1 length 9 image bits 8 columns 64 lines 64 compression 0;
-);
+const IMAGE: &str = "\
+    file 7 vc 0 apid 100 counter 0 bytes 4131 packets 65 declared 32968 real 32968 same type 0 frames 0 9 corrected 0\n\
+    record 0 length 16 primary type 0 header 25 bits 32768\n\
+    record 1 length 9 image bits 8 columns 64 lines 64 compression 0\n";
 
 /// The last lines of the list.
-const LAST_LISTED: &str = lines!(
-    file 62 vc 5 apid 200 counter 56 bytes 237 packets 1 declared 1816 real 1816 same type 2 frames 62 62 corrected 0;
-    files 63 used 41666 capacity 65536;
-);
+const LAST_LISTED: &str = "\
+    file 62 vc 5 apid 200 counter 56 bytes 237 packets 1 declared 1816 real 1816 same type 2 frames 62 62 corrected 0\n\
+    files 63 used 41666 capacity 65536\n";
 
 static LISTED: [Session; 1] = [Session {
     reads: &[65_536],
@@ -217,7 +206,7 @@ static FULL: [Session; 2] = [
         runs: &[
             Run {
                 words: &["init", "41666"],
-                out: lines!(shelf capacity 41666;),
+                out: "shelf capacity 41666\n",
                 ..QUIET
             },
             AFTER,
@@ -228,19 +217,19 @@ static FULL: [Session; 2] = [
         runs: &[
             Run {
                 words: &["init", "41665"],
-                out: lines!(shelf capacity 41665;),
+                out: "shelf capacity 41665\n",
                 ..QUIET
             },
             Run {
-                out: lines!(shelved 61 vc 5 apid 200 counter 55 bytes 237 packets 1;),
+                out: "shelved 61 vc 5 apid 200 counter 55 bytes 237 packets 1\n",
                 status: 10,
-                line: lines!(station: capacity: needs 41666 of 41665;),
+                line: "station: capacity: needs 41666 of 41665\n",
                 ..AFTER
             },
             Run {
                 words: &["extract", "62"],
                 status: 7,
-                line: lines!(station: no such file, count 62;),
+                line: "station: no such file, count 62\n",
                 ..QUIET
             },
         ],
@@ -254,15 +243,15 @@ static SOURCE_FAILS: [Session; 1] = [Session {
         Run {
             input: &[FRAMES],
             fault: 131_072,
-            out: lines!(symbols 131072 frames 8 restored 8 lost 0 packets 56 files 7 left 0 stop fault;),
+            out: "symbols 131072 frames 8 restored 8 lost 0 packets 56 files 7 left 0 stop fault\n",
             status: 3,
-            line: lines!(station: source failed;),
+            line: "station: source failed\n",
             ..RECEIVED
         },
         Run {
             words: &["extract", "7"],
             status: 7,
-            line: lines!(station: no such file, count 7;),
+            line: "station: no such file, count 7\n",
             ..QUIET
         },
     ],
@@ -277,7 +266,7 @@ static OUTPUT_FAILS: [Session; 1] = [Session {
             fault: 0,
         },
         status: 5,
-        line: lines!(station: output failed;),
+        line: "station: output failed\n",
         ..QUIET
     }],
     ..NO_DISK
@@ -286,7 +275,7 @@ static OUTPUT_FAILS: [Session; 1] = [Session {
 /// The words are refused.
 pub(crate) const USAGE: Run = Run {
     status: 2,
-    line: lines!(station: usage: SHELF COMMAND [WORDS];),
+    line: "station: usage: SHELF COMMAND [WORDS]\n",
     ..QUIET
 };
 
@@ -323,7 +312,7 @@ static OTHERS: [Session; 1] = [Session {
 // An empty shelf of the capacity 65,536.
 pub(crate) fn shelf(alloc: Global) -> Result<MemDisk, Fail> {
     let mut disk = MemDisk::of(alloc, Vec::new(alloc), 100_000, 10_000)?;
-    let made = done_with(lines!(shelf capacity 65536;));
+    let made = done_with("shelf capacity 65536\n");
     if gives_alone(alloc, &mut disk, &["init", "65536"], made)? {
         Ok(disk)
     } else {

@@ -4,18 +4,15 @@ use crate::made::{LINES, after_silence, reading, shelf};
 use lr_disk::MemDisk;
 use lr_trials_station::call::{AMPLE, NEVER, Room, printed_on, written_bytes, written_on};
 use lr_trials_station::shelves::empty_shelf;
-use lr_trials_wanted::lines;
 use std::alloc::Global;
 use std::test::Fail;
 
 const FRAME: usize = 16_384;
 
-const FIRST: &str = lines!(shelved 0 vc 5 apid 200 counter 0 bytes 237 packets 1;);
+const FIRST: &str = "shelved 0 vc 5 apid 200 counter 0 bytes 237 packets 1\n";
 
-const TURNED: &str = lines!(
-    window 0 at 0 polarity - restored 0 0 0 0;
-    symbols 16384 frames 1 restored 1 lost 0 left 0 stop end;
-);
+const TURNED: &str = "window 0 at 0 polarity - restored 0 0 0 0\n\
+                      symbols 16384 frames 1 restored 1 lost 0 left 0 stop end\n";
 
 /// What `decode` with these words prints of these bytes.
 fn decoded_text(alloc: Global, words: &[&str], bytes: Vec<u8>) -> Result<Vec<u8>, Fail> {

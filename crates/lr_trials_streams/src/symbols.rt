@@ -4,62 +4,53 @@ use lr_disk::MemDisk;
 use lr_trials_coding::streams::{bytes_of, coded_frames, leave_hits, sent_symbols, silence, turn};
 use lr_trials_station::call::{AMPLE, Input, NEVER, Outcome, done_with, ends_on, gives, gives_on};
 use lr_trials_station::shelves::empty_shelf;
-use lr_trials_wanted::lines;
 use std::alloc::Global;
 use std::test::Fail;
 
 const FRAME: usize = 16_384;
 
-const EIGHT_WINDOWS: &str = lines!(
-    window 0 at 0 polarity + restored 0 0 0 0;
-    window 1 at 16384 polarity + restored 0 0 0 0;
-    window 2 at 32768 polarity + restored 0 0 0 0;
-    window 3 at 49152 polarity + restored 0 0 0 0;
-    window 4 at 65536 polarity + restored 0 0 0 0;
-    window 5 at 81920 polarity + restored 0 0 0 0;
-    window 6 at 98304 polarity + restored 0 0 0 0;
-    window 7 at 114688 polarity + restored 0 0 0 0;
-    symbols 131072 frames 8 restored 8 lost 0 left 0 stop end;
-);
+const EIGHT_WINDOWS: &str = "window 0 at 0 polarity + restored 0 0 0 0\n\
+                             window 1 at 16384 polarity + restored 0 0 0 0\n\
+                             window 2 at 32768 polarity + restored 0 0 0 0\n\
+                             window 3 at 49152 polarity + restored 0 0 0 0\n\
+                             window 4 at 65536 polarity + restored 0 0 0 0\n\
+                             window 5 at 81920 polarity + restored 0 0 0 0\n\
+                             window 6 at 98304 polarity + restored 0 0 0 0\n\
+                             window 7 at 114688 polarity + restored 0 0 0 0\n\
+                             symbols 131072 frames 8 restored 8 lost 0 left 0 stop end\n";
 
-const NEGATED: &str = lines!(
-    window 0 at 0 polarity - restored 0 0 0 0;
-    window 1 at 16384 polarity - restored 0 0 0 0;
-    window 2 at 32768 polarity - restored 0 0 0 0;
-    window 3 at 49152 polarity - restored 0 0 0 0;
-    window 4 at 65536 polarity - restored 0 0 0 0;
-    window 5 at 81920 polarity - restored 0 0 0 0;
-    window 6 at 98304 polarity - restored 0 0 0 0;
-    window 7 at 114688 polarity - restored 0 0 0 0;
-    symbols 131072 frames 8 restored 8 lost 0 left 0 stop end;
-);
+const NEGATED: &str = "window 0 at 0 polarity - restored 0 0 0 0\n\
+                       window 1 at 16384 polarity - restored 0 0 0 0\n\
+                       window 2 at 32768 polarity - restored 0 0 0 0\n\
+                       window 3 at 49152 polarity - restored 0 0 0 0\n\
+                       window 4 at 65536 polarity - restored 0 0 0 0\n\
+                       window 5 at 81920 polarity - restored 0 0 0 0\n\
+                       window 6 at 98304 polarity - restored 0 0 0 0\n\
+                       window 7 at 114688 polarity - restored 0 0 0 0\n\
+                       symbols 131072 frames 8 restored 8 lost 0 left 0 stop end\n";
 
-const ALL: &str = lines!(symbols 131072 frames 8 restored 8 lost 0 left 0 stop end;);
+const ALL: &str = "symbols 131072 frames 8 restored 8 lost 0 left 0 stop end\n";
 
-const ONE_GONE: &str = lines!(symbols 131072 frames 7 restored 7 lost 0 left 0 stop end;);
+const ONE_GONE: &str = "symbols 131072 frames 7 restored 7 lost 0 left 0 stop end\n";
 
-const CUT_SHORT: &str = lines!(symbols 131071 frames 7 restored 7 lost 0 left 0 stop end;);
+const CUT_SHORT: &str = "symbols 131071 frames 7 restored 7 lost 0 left 0 stop end\n";
 
-const ONE_WINDOW: &str = lines!(
-    window 0 at 0 polarity + restored 0 0 0 0;
-    symbols 16384 frames 1 restored 1 lost 0 left 0 stop end;
-);
+const ONE_WINDOW: &str = "window 0 at 0 polarity + restored 0 0 0 0\n\
+                          symbols 16384 frames 1 restored 1 lost 0 left 0 stop end\n";
 
-const ONE_NEGATED: &str = lines!(
-    window 0 at 0 polarity - restored 0 0 0 0;
-    symbols 16384 frames 1 restored 1 lost 0 left 0 stop end;
-);
+const ONE_NEGATED: &str = "window 0 at 0 polarity - restored 0 0 0 0\n\
+                           symbols 16384 frames 1 restored 1 lost 0 left 0 stop end\n";
 
-const TWO: &str = lines!(symbols 32768 frames 2 restored 2 lost 0 left 0 stop end;);
+const TWO: &str = "symbols 32768 frames 2 restored 2 lost 0 left 0 stop end\n";
 
 const NOTHING: &str =
-    lines!(symbols 0 frames 0 restored 0 lost 0 packets 0 files 0 left 0 stop end;);
+    "symbols 0 frames 0 restored 0 lost 0 packets 0 files 0 left 0 stop end\n";
 
 const NO_FILE: &str =
-    lines!(symbols 131072 frames 8 restored 8 lost 0 packets 0 files 0 left 0 stop end;);
+    "symbols 131072 frames 8 restored 8 lost 0 packets 0 files 0 left 0 stop end\n";
 
 const FAILED: &str =
-    lines!(symbols 70000 frames 4 restored 4 lost 0 packets 0 files 0 left 0 stop fault;);
+    "symbols 70000 frames 4 restored 4 lost 0 packets 0 files 0 left 0 stop fault\n";
 
 // The symbols of the other polarity, as bytes.
 fn turned_bytes(alloc: Global, symbols: &[i8]) -> Result<Vec<u8>, Fail> {
@@ -197,7 +188,7 @@ fn frames_before_a_fault_are_received(rt: HostRuntime) -> Result<(), Fail> {
     let wanted = Outcome {
         out: FAILED,
         status: 3,
-        line: lines!(station: source failed;),
+        line: "station: source failed\n",
     };
     assert!(rt; gives_on(alloc, &mut shelf, input, AMPLE, wanted)?);
     Ok(())

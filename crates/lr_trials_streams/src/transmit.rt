@@ -9,19 +9,16 @@ use lr_trials_station::call::{
 };
 use lr_trials_station::sessions::{OVER, QUIET, Run, Session, hold, hold_on};
 use lr_trials_station::shelves::{TWO_FILES, disk, empty_shelf};
-use lr_trials_wanted::lines;
 use std::alloc::Global;
 use std::test::Fail;
 
 const FRAME_SYMBOLS: usize = 16_384;
 
-const ONE_FILE: &str = lines!(
-    shelved 0 vc 0 apid 100 counter 7 bytes 26 packets 1;
-    symbols 16384 frames 1 restored 1 lost 0 packets 1 files 1 left 0 stop end;
-);
+const ONE_FILE: &str = "shelved 0 vc 0 apid 100 counter 7 bytes 26 packets 1\n\
+                        symbols 16384 frames 1 restored 1 lost 0 packets 1 files 1 left 0 stop end\n";
 
 const LONG_FILE: &str =
-    lines!(symbols 32768 frames 2 restored 2 lost 0 packets 1 files 1 left 0 stop end;);
+    "symbols 32768 frames 2 restored 2 lost 0 packets 1 files 1 left 0 stop end\n";
 
 // An `out` for as many symbols as these trials put.
 const MOST_SYMBOLS: usize = 40 * FRAME_SYMBOLS;
@@ -104,7 +101,7 @@ const PLAIN_MARKS: [&str; 4] = ["--line", "nrz-m", "--g2", "plain"];
 /// A shelf for two of these files.
 const SMALL: Run = Run {
     words: &["init", "9000"],
-    out: lines!(shelf capacity 9000;),
+    out: "shelf capacity 9000\n",
     ..QUIET
 };
 
@@ -117,7 +114,7 @@ fn sent_again(alloc: Global, shelf: &mut MemDisk) -> Result<MemDisk, Fail> {
     hold_on(alloc, &mut other, &[SMALL], 0)?;
     let receive = ["receive", line, marks, g2, plain];
     let input = receiving(&receive, symbols);
-    let two = done_with(lines!(.. lost 0 packets 66 files 2 left 0 stop end;));
+    let two = done_with(" lost 0 packets 66 files 2 left 0 stop end\n");
     if ends_on(alloc, &mut other, input, AMPLE, two)? {
         Ok(other)
     } else {
@@ -155,7 +152,7 @@ fn files_of_a_trial_are_sent_under_another_line_code(rt: HostRuntime) -> Result<
 
 fn fill_is_refused(alloc: Global) -> Result<bool, Fail> {
     let mut shelf = shelf_of_body(alloc, 63, 26)?;
-    let wanted = refused_with(15, lines!(station: cannot send: fill;));
+    let wanted = refused_with(15, "station: cannot send: fill\n");
     gives_alone(alloc, &mut shelf, &["transmit", "0", "1", "0"], wanted)
 }
 
@@ -167,7 +164,7 @@ fn a_file_of_the_channel_of_fill_is_refused(rt: HostRuntime) -> Result<(), Fail>
 
 const DISCARDED: Run = Run {
     words: &["discard", "0"],
-    out: lines!(discarded 0;),
+    out: "discarded 0\n",
     ..QUIET
 };
 
@@ -180,7 +177,7 @@ static NOT_SENT: [Session; 2] = [
         runs: &[Run {
             words: &BOTH,
             status: 12,
-            line: lines!(station: bad checksum;),
+            line: "station: bad checksum\n",
             ..QUIET
         }],
         ..TWO
@@ -191,7 +188,7 @@ static NOT_SENT: [Session; 2] = [
             Run {
                 words: &["transmit", "0", "3", "0"],
                 status: 7,
-                line: lines!(station: no such file, count 2;),
+                line: "station: no such file, count 2\n",
                 ..QUIET
             },
         ],
@@ -227,7 +224,7 @@ static OUTPUT_FAILS: [Session; 1] = [Session {
             fault: NEVER,
         },
         status: 5,
-        line: lines!(station: output failed;),
+        line: "station: output failed\n",
         ..QUIET
     }],
     ..TWO

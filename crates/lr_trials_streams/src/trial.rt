@@ -6,7 +6,6 @@ use lr_trials_station::call::{
     written_on,
 };
 use lr_trials_station::sessions::{Left, QUIET, Run, Session, hold};
-use lr_trials_wanted::lines;
 use std::alloc::Global;
 use std::test::Fail;
 
@@ -15,13 +14,13 @@ const ALL: usize = 1_048_576;
 const TRIAL: [&str; 4] = ["trial", "1", "64", "0"];
 
 const LINE: &str =
-    lines!(symbols 1048576 frames 64 restored 64 lost 0 packets 452 files 63 left 0 stop end;);
+    "symbols 1048576 frames 64 restored 64 lost 0 packets 452 files 63 left 0 stop end\n";
 
 // 512 frames of channel 0 have 452,608 bytes of packets: 97 files of 4,651, the next one's first packet of 43, and 19
 // of 72 after it. 256 frames of channel 5 have 226,304: 923 packets of 245. So 6,305 + 20 + 923 packets, and 97 +
 // 923 files.
 const LONG_LINE: &str =
-    lines!(symbols 16777216 frames 1024 restored 1024 lost 0 packets 7248 files 1020 left 0 stop end;);
+    "symbols 16777216 frames 1024 restored 1024 lost 0 packets 7248 files 1020 left 0 stop end\n";
 
 // The contents of the shelf with those 63 files: 20 bytes of the empty shelf, and for each file a gate of one byte, an
 // item of 38 bytes, two for each packet, and its own bytes. 57 texts of 237 bytes in one packet are 278 each, 15,846
@@ -52,7 +51,7 @@ pub fn tried_disk(alloc: Global) -> Result<MemDisk, Fail> {
 // The disk that `init` and `receive` leave, of the same stream.
 fn received_disk(alloc: Global) -> Result<MemDisk, Fail> {
     let mut disk = empty(alloc, 100_000)?;
-    let line = done_with(lines!(shelf capacity 1048576;));
+    let line = done_with("shelf capacity 1048576\n");
     let made = gives_alone(alloc, &mut disk, &["init", "1048576"], line)?;
     let input = Input {
         words: &["receive"],
@@ -140,7 +139,7 @@ static SECOND: [Session; 1] = [Session {
         Run {
             words: &TRIAL,
             status: 11,
-            line: lines!(station: not empty, length 41666;),
+            line: "station: not empty, length 41666\n",
             left: Left::Length(SHELF),
             ..QUIET
         },
@@ -210,9 +209,9 @@ fn leaves_the_same(
 #[test]
 fn a_line_that_fails_leaves_the_whole_shelf(rt: HostRuntime) -> Result<(), Fail> {
     let wanted = Outcome {
-        out: lines!(symbols..),
+        out: "symbols ",
         status: 5,
-        line: lines!(station: output failed;),
+        line: "station: output failed\n",
     };
     assert!(rt; leaves_the_same(rt.alloc(), &[], NEVER, 8, wanted)?);
     Ok(())
@@ -222,7 +221,7 @@ static DISK_FAILS: [Session; 1] = [Session {
     runs: &[Run {
         words: &TRIAL,
         status: 4,
-        line: lines!(station: disk failed;),
+        line: "station: disk failed\n",
         ..QUIET
     }],
     ..NO_DISK

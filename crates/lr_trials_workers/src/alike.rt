@@ -1,23 +1,21 @@
 //! Any number of workers prints and shelves the same.
 use crate::calls::{call, call_alone, disk_of_calls, empty_shelf, faultless, symbols};
-use lr_trials_wanted::{is_status, is_text, lines};
+use lr_trials_support::{is_status, is_text};
 use std::alloc::Global;
 use std::sync::Wait;
 use std::test::Fail;
 use std::thread::Threads;
 
 const LAST: &str =
-    lines!(symbols 1049276 frames 64 restored 64 lost 0 packets 452 files 63 left 0 stop end;);
+    "symbols 1049276 frames 64 restored 64 lost 0 packets 452 files 63 left 0 stop end\n";
 
-const FIRST: &str = lines!(shelved 0 vc 5 apid 200 counter 0 bytes 237 packets 1;);
+const FIRST: &str = "shelved 0 vc 5 apid 200 counter 0 bytes 237 packets 1\n";
 
 const TRIAL: &str =
-    lines!(symbols 1048576 frames 64 restored 64 lost 0 packets 452 files 63 left 0 stop end;);
+    "symbols 1048576 frames 64 restored 64 lost 0 packets 452 files 63 left 0 stop end\n";
 
-const SIXTEEN_WRONG: &str = lines!(
-    window 7 at 114688 polarity + restored 16 16 16 16;
-    symbols 131072 frames 8 restored 8 lost 0 left 0 stop end;
-);
+const SIXTEEN_WRONG: &str = "window 7 at 114688 polarity + restored 16 16 16 16\n\
+                             symbols 131072 frames 8 restored 8 lost 0 left 0 stop end\n";
 
 // Whether these words print and shelve what one thread does, in reads of each size.
 fn receives_alike<R: Threads + Wait + Sync>(
@@ -88,7 +86,7 @@ fn blocks_need_no_worker(rt: HostRuntime) -> Result<(), Fail> {
     let alloc = rt.alloc();
     let mut disk = disk_of_calls(alloc, 0)?;
     let words = "decode --input blocks --workers 8";
-    let last = lines!(.. left 0 stop end;).as_bytes();
+    let last = " left 0 stop end\n".as_bytes();
     let printed = call(&rt, alloc, &faultless(words, &[7; 1_020], 1_020), &mut disk)?;
     assert!(rt; printed.status == 0 && printed.out.as_slice().ends_with(last));
     Ok(())

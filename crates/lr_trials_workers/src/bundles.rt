@@ -2,7 +2,7 @@
 use crate::calls::{
     Given, Printed, call, call_alone, disk_of_calls, empty_shelf, faultless, symbols,
 };
-use lr_trials_wanted::{is_status, is_text, lines, receipt_number};
+use lr_trials_support::{is_status, is_text, receipt_number};
 use std::alloc::Global;
 use std::sync::Wait;
 use std::test::Fail;
@@ -62,7 +62,7 @@ fn two_recordings_come_onto_one_shelf(rt: HostRuntime) -> Result<(), Fail> {
     let mut disk = empty_shelf(alloc)?;
     let printed = call(&rt, alloc, &faultless(WORDS, &bytes, 65_536), &mut disk)?;
     assert!(rt; printed.status == 0);
-    let last = lines!(downlinks 2 symbols 262144 files 14;);
+    let last = "downlinks 2 symbols 262144 files 14\n";
     assert!(rt; printed.out.as_slice().ends_with(last.as_bytes()));
     let text = String::from_utf8(printed.out.as_slice().to_vec(alloc)?);
     let Ok(text) = text else {
@@ -90,19 +90,19 @@ fn is_flawed<R: Threads + Wait + Sync>(
 #[test]
 fn bytes_that_are_no_bundle_are_refused(rt: HostRuntime) -> Result<(), Fail> {
     let alloc = rt.alloc();
-    assert!(rt; is_flawed(&rt, alloc, &[], lines!(station: bad bundle: ended 0;))?);
-    assert!(rt; is_flawed(&rt, alloc, &[0], lines!(station: bad bundle: count 0;))?);
-    assert!(rt; is_flawed(&rt, alloc, &[17, 1], lines!(station: bad bundle: count 17;))?);
+    assert!(rt; is_flawed(&rt, alloc, &[], "station: bad bundle: ended 0\n")?);
+    assert!(rt; is_flawed(&rt, alloc, &[0], "station: bad bundle: count 0\n")?);
+    assert!(rt; is_flawed(&rt, alloc, &[17, 1], "station: bad bundle: count 17\n")?);
     assert!(rt;
         is_flawed(
             &rt,
             alloc,
             &[1, 0, 0, 0, 0],
-            lines!(station: bad bundle: ended 5;)
+            "station: bad bundle: ended 5\n"
         )?
     );
     let rest = [1, 0, 0, 0, 0, 0, 0, 0, 0, 0];
-    assert!(rt; is_flawed(&rt, alloc, &rest, lines!(station: bad bundle: rest 9;))?);
+    assert!(rt; is_flawed(&rt, alloc, &rest, "station: bad bundle: rest 9\n")?);
     Ok(())
 }
 
@@ -116,7 +116,7 @@ fn recordings_may_have_no_symbols(rt: HostRuntime) -> Result<(), Fail> {
     let bytes = bundle_of(alloc, &empty)?;
     let mut disk = empty_shelf(alloc)?;
     let printed = call(&rt, alloc, &faultless(WORDS, &bytes, 1), &mut disk)?;
-    assert!(rt; ends_with(&printed, 0, lines!(downlinks 16 symbols 0 files 0;), "")?);
+    assert!(rt; ends_with(&printed, 0, "downlinks 16 symbols 0 files 0\n", "")?);
     Ok(())
 }
 
@@ -125,7 +125,7 @@ fn one_thread_knows_no_downlinks(rt: HostRuntime) -> Result<(), Fail> {
     let alloc = rt.alloc();
     let mut disk = empty_shelf(alloc)?;
     let printed = call_alone(alloc, &faultless(WORDS, &[0], 1), &mut disk)?;
-    let line = lines!(station: usage: SHELF COMMAND [WORDS];);
+    let line = "station: usage: SHELF COMMAND [WORDS]\n";
     assert!(rt; ends_with(&printed, 2, "", line)?);
     Ok(())
 }
@@ -142,7 +142,7 @@ fn a_source_that_fails_shelves_nothing(rt: HostRuntime) -> Result<(), Fail> {
         };
         let mut disk = empty_shelf(alloc)?;
         let printed = call(&rt, alloc, &fails, &mut disk)?;
-        assert!(rt; ends_with(&printed, 3, "", lines!(station: source failed;))?);
+        assert!(rt; ends_with(&printed, 3, "", "station: source failed\n")?);
         assert!(rt; disk.as_slice() == untouched.as_slice());
     }
     Ok(())
@@ -182,19 +182,19 @@ fn a_full_shelf_keeps_what_has_a_receipt(rt: HostRuntime) -> Result<(), Fail> {
         printed
             .err
             .as_slice()
-            .starts_with(lines!(station: capacity ..).as_bytes())
+            .starts_with("station: capacity: needs ".as_bytes())
     );
     assert!(rt;
         printed
             .out
             .as_slice()
-            .starts_with(lines!(receipt..).as_bytes())
+            .starts_with("receipt ".as_bytes())
     );
     assert!(rt;
         !printed
             .out
             .as_slice()
-            .ends_with(lines!(.. files 14;).as_bytes())
+            .ends_with(" files 14\n".as_bytes())
     );
     Ok(())
 }

@@ -3,7 +3,7 @@ use lr_disk::MemDisk;
 use lr_io::{MemSink, MemSource};
 use lr_station::{station, station_alone};
 use lr_trials_station::short::ShortSource;
-use lr_trials_wanted::words_of;
+use lr_trials_support::words_of;
 use std::alloc::Global;
 use std::sync::Wait;
 use std::test::Fail;

@@ -9,7 +9,7 @@ use lr_disk::MemDisk;
 use lr_frame::{FrameDone, FrameWork, Hand};
 use lr_lock::Window;
 use lr_station::station_with;
-use lr_trials_wanted::words_of;
+use lr_trials_support::words_of;
 use std::alloc::Global;
 use std::sync::atomic::Ordering::SeqCst;
 use std::sync::atomic::{AtomicBool, AtomicU32};

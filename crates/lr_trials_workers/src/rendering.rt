@@ -3,7 +3,7 @@ use crate::calls::{Printed, call_alone, empty_shelf, err_of, faultless, source_o
 use lr_disk::MemDisk;
 use lr_io::MemSink;
 use lr_station::station;
-use lr_trials_wanted::{is_text, lines, words_of};
+use lr_trials_support::{is_text, words_of};
 use std::alloc::Global;
 use std::sync::Wait;
 use std::test::Fail;
@@ -53,7 +53,7 @@ fn the_pictures_of_the_test_stream_are_rendered_alike(rt: HostRuntime) -> Result
     let mut disk = shelf_of_the_test_stream(alloc)?;
     let alone = call_with_room(&rt, alloc, "render", PICTURE_BYTES, &mut disk)?;
     assert!(rt; alone.status == 0 && alone.out.as_slice().len() == PICTURE_BYTES);
-    let line = lines!(rendered 6 skipped 57;);
+    let line = "rendered 6 skipped 57\n";
     assert!(rt; is_text("err", alone.err.as_slice(), line.as_bytes())?);
     assert!(rt; begins_with_the_first(alloc, alone.out.as_slice(), &mut disk)?);
     for words in [
@@ -85,7 +85,7 @@ fn an_empty_shelf_has_no_pictures(rt: HostRuntime) -> Result<(), Fail> {
     let mut disk = empty_shelf(alloc)?;
     let printed = call_with_room(&rt, alloc, "render --workers 2", 100, &mut disk)?;
     assert!(rt; printed.status == 0 && printed.out.as_slice().is_empty());
-    let line = lines!(rendered 0 skipped 0;);
+    let line = "rendered 0 skipped 0\n";
     assert!(rt; is_text("err", printed.err.as_slice(), line.as_bytes())?);
     Ok(())
 }
