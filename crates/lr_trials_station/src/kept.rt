@@ -57,7 +57,7 @@ static EXTRACTED: [&[Step]; 2] = [
     ],
 ];
 
-const NO_SHELF_AT_0: End = End(6, "station: not a shelf at 0\n");
+const NO_SHELF_AT_0: End<'static> = End(6, "station: not a shelf at 0\n");
 
 /// The header of a shelf with an open gate, and nothing after it.
 const OPEN: &[u8] = b"\x5ALRSHELF\x02\x00\x00\x00\x00\x00\x00\x03\xE8\xE5\x04\x01";

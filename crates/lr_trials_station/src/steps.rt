@@ -27,9 +27,11 @@ pub enum Piece {
 #[derive(Clone, Copy)]
 pub enum Step {
     /// These words print this, and end so.
-    Call(&'static str, &'static str, End),
+    Call(&'static str, &'static str, End<'static>),
     /// The same, where more may be printed before it.
-    CallEnding(&'static str, &'static str, End),
+    CallEnding(&'static str, &'static str, End<'static>),
+    /// These words print these bytes, and are done.
+    Writes(&'static str, &'static [u8]),
     /// What the calls from here on read.
     Reads(&'static [Piece]),
     /// The place at which the source of the next call fails once.

@@ -81,7 +81,7 @@ impl Parts {
 
 impl Printed {
     /// Whether it ended so, with this text. Where it didn't, the failure says in which case, and what differs.
-    pub fn ended_so(&self, case: &str, out: &[u8], end: End) -> Result<bool, Fail> {
+    pub fn ended_so(&self, case: &str, out: &[u8], end: End<'_>) -> Result<bool, Fail> {
         let End(status, line) = end;
         Ok(
             self.has_status(case, status)?
@@ -95,7 +95,7 @@ impl Printed {
     }
 
     /// Whether it ended so, and its text ends with this one.
-    pub fn ended_with(&self, case: &str, out: &[u8], end: End) -> Result<bool, Fail> {
+    pub fn ended_with(&self, case: &str, out: &[u8], end: End<'_>) -> Result<bool, Fail> {
         let End(status, line) = end;
         let all = self.out.as_slice();
         let last = &all[all.len().saturating_sub(out.len())..];

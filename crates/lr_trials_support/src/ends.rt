@@ -2,29 +2,29 @@
 
 /// How a call ends: its status, and the line on `err`.
 #[derive(Clone, Copy)]
-pub struct End(pub u8, pub &'static str);
+pub struct End<'a>(pub u8, pub &'a str);
 
-pub const DONE: End = End(0, "");
+pub const DONE: End<'static> = End(0, "");
 
-pub const USAGE: End = End(2, "station: usage: SHELF COMMAND [WORDS]\n");
+pub const USAGE: End<'static> = End(2, "station: usage: SHELF COMMAND [WORDS]\n");
 
-pub const SOURCE_FAILED: End = End(3, "station: source failed\n");
+pub const SOURCE_FAILED: End<'static> = End(3, "station: source failed\n");
 
-pub const DISK_FAILED: End = End(4, "station: disk failed\n");
+pub const DISK_FAILED: End<'static> = End(4, "station: disk failed\n");
 
-pub const OUTPUT_FAILED: End = End(5, "station: output failed\n");
+pub const OUTPUT_FAILED: End<'static> = End(5, "station: output failed\n");
 
-pub const NO_SHELF_AT_19: End = End(6, "station: not a shelf at 19\n");
+pub const NO_SHELF_AT_19: End<'static> = End(6, "station: not a shelf at 19\n");
 
-pub const NO_THIRD_FILE: End = End(7, "station: no such file, count 2\n");
+pub const NO_THIRD_FILE: End<'static> = End(7, "station: no such file, count 2\n");
 
-pub const NOT_IMAGE: End = End(8, "station: cannot export: not-image\n");
+pub const NOT_IMAGE: End<'static> = End(8, "station: cannot export: not-image\n");
 
-pub const NO_MEMORY: End = End(9, "station: no memory\n");
+pub const NO_MEMORY: End<'static> = End(9, "station: no memory\n");
 
-pub const BAD_CHECKSUM: End = End(12, "station: bad checksum\n");
+pub const BAD_CHECKSUM: End<'static> = End(12, "station: bad checksum\n");
 
-pub const GONE: End = End(13, "station: discarded\n");
+pub const GONE: End<'static> = End(13, "station: discarded\n");
 
 /// The first file of a shelf is discarded.
 pub const DISCARDED_0: &str = "discarded 0\n";
