@@ -1,9 +1,7 @@
 //! `list` and `show` of files whose headers have records of many kinds, and each fault. The frame and the texts are
 //! those of `reference/headers.py`.
-use crate::calls::disk;
-use crate::given::FRAMES;
-use crate::steps::{Step, follows};
-use std::alloc::Global;
+use lr_trials_station::steps::{FRAMES, Piece, Step, hold};
+use lr_trials_support::{DONE, End};
 use std::test::Fail;
 
 /// A frame with six files. The header of the first has records of the kinds 0 to 7, 128 and 131, and such ones of
@@ -92,25 +90,21 @@ const WRONG_LENGTH: &str = "\
     file 5 vc 0 apid 100 counter 5 bytes 37 packets 1 declared 216 real 216 same type fault frames 0 0 corrected 0\n\
     header fault length 5 11\n";
 
-static STEPS: [Step; 10] = [
-    (&["init", "1000"], 0, "shelf capacity 1000\n"),
-    (&FRAMES, 0, RECEIVED),
-    (&["list"], 0, LISTED),
-    (&["show", "0"], 0, EACH_KIND),
-    (&["show", "1"], 0, ENDED),
-    (&["show", "2"], 0, NOT_PRIMARY),
-    (&["show", "3"], 0, SHORT),
-    (&["show", "4"], 0, OVERRUN),
-    (&["show", "5"], 0, WRONG_LENGTH),
-    (&["show", "6"], 7, "station: no such file, count 6\n"),
-];
-
-fn all_are_shown(alloc: Global) -> Result<bool, Fail> {
-    follows(alloc, &mut disk(alloc, &[])?, &[SIX_FILES], &STEPS)
-}
+static SHOWN: [&[Step]; 1] = [&[
+    Step::Call("init 1000", "shelf capacity 1000\n", DONE),
+    Step::Reads(&[Piece::Frame(SIX_FILES)]),
+    Step::Call(FRAMES, RECEIVED, DONE),
+    Step::Call("list", LISTED, DONE),
+    Step::Call("show 0", EACH_KIND, DONE),
+    Step::Call("show 1", ENDED, DONE),
+    Step::Call("show 2", NOT_PRIMARY, DONE),
+    Step::Call("show 3", SHORT, DONE),
+    Step::Call("show 4", OVERRUN, DONE),
+    Step::Call("show 5", WRONG_LENGTH, DONE),
+    Step::Call("show 6", "", End(7, "station: no such file, count 6\n")),
+]];
 
 #[test]
 fn each_file_is_listed_and_shown_with_its_header(rt: HostRuntime) -> Result<(), Fail> {
-    assert!(rt; all_are_shown(rt.alloc())?);
-    Ok(())
+    hold(rt.alloc(), &SHOWN)
 }
