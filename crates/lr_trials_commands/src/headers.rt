@@ -16,7 +16,12 @@ const NAVIGATION: [u8; 51] = [
 fn has_lines(alloc: Global, proper: &[u8], wanted: &str) -> Result<bool, Fail> {
     let mut text = Bytes::new(alloc);
     header_lines(alloc, proper, &mut text)?;
-    is_text("the text", text.as_slice(), wanted.as_bytes())
+    let last = &proper[proper.len().min(16)..];
+    is_text(
+        format_args!("the header with {last:?}"),
+        text.as_slice(),
+        wanted.as_bytes(),
+    )
 }
 
 /// A primary record of type 2 and 1,600 bits, and these records.
@@ -30,14 +35,12 @@ fn proper(alloc: Global, records: &[u8]) -> Result<Vec<u8>, Fail> {
 /// The records after the first one, and the lines of the header.
 struct Case(&'static [u8], &'static str);
 
-/// Whether each header has its lines. Where one hasn't, the failure says what differs.
-fn have_lines(alloc: Global, cases: &[Case]) -> Result<bool, Fail> {
+/// That each header has its lines. Where one hasn't, the failure says which, and what differs.
+fn have_lines(alloc: Global, cases: &[Case]) -> Result<(), Fail> {
     for Case(records, wanted) in cases {
-        if !has_lines(alloc, &proper(alloc, records)?, wanted)? {
-            return Ok(false);
-        }
+        has_lines(alloc, &proper(alloc, records)?, wanted)?;
     }
-    Ok(true)
+    Ok(())
 }
 
 static IMAGES: [Case; 4] = [
@@ -140,32 +143,27 @@ static FAULTS: [Case; 3] = [
 
 #[test]
 fn images_have_their_lines(rt: HostRuntime) -> Result<(), Fail> {
-    assert!(rt; have_lines(rt.alloc(), &IMAGES)?);
-    Ok(())
+    have_lines(rt.alloc(), &IMAGES)
 }
 
 #[test]
 fn a_name_of_zeros_leaves_its_space(rt: HostRuntime) -> Result<(), Fail> {
-    assert!(rt; have_lines(rt.alloc(), &BLANK)?);
-    Ok(())
+    have_lines(rt.alloc(), &BLANK)
 }
 
 #[test]
 fn texts_are_escaped(rt: HostRuntime) -> Result<(), Fail> {
-    assert!(rt; have_lines(rt.alloc(), &TEXTS)?);
-    Ok(())
+    have_lines(rt.alloc(), &TEXTS)
 }
 
 #[test]
 fn stamps_and_other_records_have_their_lines(rt: HostRuntime) -> Result<(), Fail> {
-    assert!(rt; have_lines(rt.alloc(), &STAMPS_AND_OTHERS)?);
-    Ok(())
+    have_lines(rt.alloc(), &STAMPS_AND_OTHERS)
 }
 
 #[test]
 fn a_fault_has_one_line(rt: HostRuntime) -> Result<(), Fail> {
     assert!(rt; has_lines(rt.alloc(), &[0; 15], "header fault ended 15\n")?);
     assert!(rt; has_lines(rt.alloc(), &[0; 16], "header fault not-primary\n")?);
-    assert!(rt; have_lines(rt.alloc(), &FAULTS)?);
-    Ok(())
+    have_lines(rt.alloc(), &FAULTS)
 }
