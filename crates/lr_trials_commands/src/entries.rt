@@ -1,12 +1,10 @@
 //! What the commands put and answer, on a shelf of version 1 that goes on. Its bytes are those of `reference/shelf.py`.
-use crate::shared::{
-    OLD_SHELF, discards, disk, extracts, is_end, lists, shows, sink, verifies, with_byte,
-    with_capacity, with_two,
-};
+use crate::calls::{Call, add, ended, ends};
+use crate::image_files::file_of;
 use lr_causes::{Cause, Refusal};
 use lr_disk::MemDisk;
-use lr_io::MemSink;
-use lr_trials_wanted::lines;
+use lr_shelf_format::old_header_of;
+use lr_trials_support::{BOTH_OK, DISCARDED_0, OLD_SHELF, SECOND_OK, bytes_with, disk};
 use std::alloc::Global;
 use std::test::Fail;
 
@@ -24,16 +22,6 @@ pub(crate) enum Start {
     Capacity(u64),
 }
 
-/// A command.
-#[derive(Clone, Copy)]
-pub(crate) enum Call {
-    Extract(u64),
-    Verify,
-    Discard(u64),
-    List,
-    Show(u64),
-}
-
 /// A command on a shelf, the status that it ends with, and what it puts.
 pub(crate) struct Case(
     pub(crate) Start,
@@ -42,63 +30,68 @@ pub(crate) struct Case(
     pub(crate) &'static str,
 );
 
-fn started(alloc: Global, start: Start) -> Result<MemDisk, Fail> {
-    match start {
-        Start::Old => disk(alloc, &OLD_SHELF),
-        Start::Two => with_two(alloc),
-        Start::WithoutFirst => without_first(alloc),
-        Start::Byte(place, byte) => with_byte(alloc, place, byte),
-        Start::Capacity(capacity) => with_capacity(alloc, capacity),
-    }
+/// The old shelf, on which its file was received again. It ends at 129.
+pub(crate) fn with_two(alloc: Global) -> Result<MemDisk, Fail> {
+    let mut made = disk(alloc, OLD_SHELF, 1_000)?;
+    add(alloc, &mut made, file_of(alloc, &[&OLD_SHELF[33..59]])?)?;
+    Ok(made)
 }
 
-fn called(alloc: Global, call: Call, made: &mut MemDisk, out: &mut MemSink) -> Cause {
-    match call {
-        Call::Extract(number) => extracts(alloc, number, made, out),
-        Call::Verify => verifies(alloc, made, out),
-        Call::Discard(number) => discards(alloc, number, made, out),
-        Call::List => lists(alloc, made, out),
-        Call::Show(number) => shows(alloc, number, made, out),
-    }
-}
-
-fn holds(alloc: Global, case: &Case) -> Result<bool, Fail> {
-    let Case(start, call, status, text) = case;
-    let mut made = started(alloc, *start)?;
-    let mut out = sink(alloc)?;
-    let cause = called(alloc, *call, &mut made, &mut out);
-    is_end(cause, &out, *status, text.as_bytes())
-}
-
-/// Whether each command ends so. Where one doesn't, the failure says what differs.
-pub(crate) fn hold(alloc: Global, cases: &[Case]) -> Result<bool, Fail> {
-    for case in cases {
-        if !holds(alloc, case)? {
-            return Ok(false);
-        }
-    }
-    Ok(true)
-}
-
-/// The shelf of two files, the first of which is discarded.
+/// The same, where the first file is discarded.
 fn without_first(alloc: Global) -> Result<MemDisk, Fail> {
     let mut made = with_two(alloc)?;
-    let mut out = sink(alloc)?;
-    let cause = discards(alloc, 0, &mut made, &mut out);
-    let is_said = is_end(cause, &out, 0, lines!(discarded 0;).as_bytes())?;
-    if is_said && made.as_slice().len() == 141 {
-        Ok(made)
-    } else {
-        Err(Fail::from("it wasn't discarded"))
-    }
+    ends(
+        alloc,
+        "without the first",
+        &mut made,
+        Call::Discard(0),
+        1_000,
+        (0, DISCARDED_0.as_bytes()),
+    )?;
+    Ok(made)
 }
 
-/// What the refusal for want of room says.
+/// The bytes of the old shelf after its header, behind that of another capacity.
+pub(crate) fn with_capacity(alloc: Global, capacity: u64, rest: &[u8]) -> Result<Vec<u8>, Fail> {
+    let mut bytes = old_header_of(capacity)[..19].to_vec(alloc)?;
+    bytes.extend_from_slice(rest)?;
+    Ok(bytes)
+}
+
+fn started(alloc: Global, start: Start) -> Result<MemDisk, Fail> {
+    let bytes = match start {
+        Start::Two => return with_two(alloc),
+        Start::WithoutFirst => return without_first(alloc),
+        Start::Old => OLD_SHELF.to_vec(alloc)?,
+        Start::Byte(place, byte) => bytes_with(alloc, OLD_SHELF, place, byte)?,
+        Start::Capacity(capacity) => with_capacity(alloc, capacity, &OLD_SHELF[19..])?,
+    };
+    Ok(disk(alloc, &bytes, 1_000)?)
+}
+
+/// That each command ends so. Where one doesn't, the failure says which, and what differs.
+pub(crate) fn hold(alloc: Global, cases: &[Case]) -> Result<(), Fail> {
+    for (number, Case(start, call, status, text)) in cases.iter().enumerate() {
+        let name = format!(in alloc; "case {number}")?;
+        let mut made = started(alloc, *start)?;
+        ends(
+            alloc,
+            &name,
+            &mut made,
+            *call,
+            1_000,
+            (*status, text.as_bytes()),
+        )?;
+    }
+    Ok(())
+}
+
+/// What the refusal for want of room says of a discard.
 fn needs(alloc: Global, most: u64) -> Result<u64, Fail> {
-    let mut made = with_capacity(alloc, most)?;
-    match discards(alloc, 0, &mut made, &mut sink(alloc)?) {
+    let mut made = started(alloc, Start::Capacity(most))?;
+    match ended(alloc, &mut made, Call::Discard(0), 1_000)?.cause {
         Cause::Refused(Refusal::Capacity { needed, capacity }) if capacity == most => Ok(needed),
-        _ => Err(Fail::from("it isn't full")),
+        cause => Err(Fail::new(format_args!("the status is {}", cause.status()))),
     }
 }
 
@@ -121,29 +114,13 @@ static NOT_EXTRACTED: [Case; 4] = [
 ];
 
 static VERIFIED: [Case; 5] = [
-    Case(
-        Start::Two,
-        Call::Verify,
-        0,
-        lines!(
-            file 0 ok;
-            file 1 ok;
-        ),
-    ),
-    Case(
-        Start::WithoutFirst,
-        Call::Verify,
-        0,
-        lines!(
-            file 0 discarded;
-            file 1 ok;
-        ),
-    ),
+    Case(Start::Two, Call::Verify, 0, BOTH_OK),
+    Case(Start::WithoutFirst, Call::Verify, 0, SECOND_OK),
     Case(
         Start::Byte(59, 0x8C),
         Call::Verify,
         12,
-        lines!(file 0 bad stored "8CCA" computed "8BCA";),
+        "file 0 bad stored 8CCA computed 8BCA\n",
     ),
     Case(Start::Byte(32, 0x1B), Call::Verify, 6, ""),
     Case(Start::Byte(19, 0), Call::Verify, 0, ""),
@@ -152,53 +129,38 @@ static VERIFIED: [Case; 5] = [
 static DISCARDED: [Case; 4] = [
     Case(Start::WithoutFirst, Call::Discard(0), 13, ""),
     Case(Start::WithoutFirst, Call::Discard(2), 7, ""),
-    Case(
-        Start::WithoutFirst,
-        Call::Discard(1),
-        0,
-        lines!(discarded 1;),
-    ),
+    Case(Start::WithoutFirst, Call::Discard(1), 0, "discarded 1\n"),
     Case(Start::Byte(0, 0), Call::Discard(0), 6, ""),
 ];
 
 static ROOM: [Case; 3] = [
     Case(Start::Capacity(73), Call::Discard(0), 10, ""),
-    Case(
-        Start::Capacity(74),
-        Call::Discard(0),
-        0,
-        lines!(discarded 0;),
-    ),
+    Case(Start::Capacity(74), Call::Discard(0), 0, DISCARDED_0),
     Case(Start::Capacity(73), Call::Discard(1), 7, ""),
 ];
 
 #[test]
 fn a_file_is_extracted_by_its_number(rt: HostRuntime) -> Result<(), Fail> {
-    assert!(rt; hold(rt.alloc(), &EXTRACTED)?);
-    Ok(())
+    hold(rt.alloc(), &EXTRACTED)
 }
 
 #[test]
 fn extract_is_refused_for_what_it_finds(rt: HostRuntime) -> Result<(), Fail> {
-    assert!(rt; hold(rt.alloc(), &NOT_EXTRACTED)?);
-    Ok(())
+    hold(rt.alloc(), &NOT_EXTRACTED)
 }
 
 #[test]
 fn verify_has_a_line_for_each_entry(rt: HostRuntime) -> Result<(), Fail> {
-    assert!(rt; hold(rt.alloc(), &VERIFIED)?);
-    Ok(())
+    hold(rt.alloc(), &VERIFIED)
 }
 
 #[test]
 fn a_file_is_discarded_once(rt: HostRuntime) -> Result<(), Fail> {
-    assert!(rt; hold(rt.alloc(), &DISCARDED)?);
-    Ok(())
+    hold(rt.alloc(), &DISCARDED)
 }
 
 #[test]
 fn a_discard_needs_twelve_bytes(rt: HostRuntime) -> Result<(), Fail> {
-    assert!(rt; needs(rt.alloc(), 73)? == 74);
-    assert!(rt; hold(rt.alloc(), &ROOM)?);
-    Ok(())
+    assert_eq!(rt; needs(rt.alloc(), 73)?, 74);
+    hold(rt.alloc(), &ROOM)
 }

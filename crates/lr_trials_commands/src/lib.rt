@@ -2,6 +2,8 @@
 #![tactic(auto)]
 
 #[cfg(test)]
+mod calls;
+#[cfg(test)]
 mod claims;
 #[cfg(test)]
 mod entries;
@@ -17,8 +19,6 @@ mod pictures;
 mod rendered;
 #[cfg(test)]
 mod repacks;
-#[cfg(test)]
-mod shared;
 #[cfg(test)]
 mod stops;
 #[cfg(test)]

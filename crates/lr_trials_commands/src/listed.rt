@@ -1,28 +1,16 @@
 //! `list` and `show`, on a shelf of version 1 that goes on.
-use crate::entries::{Call, Case, Start, hold};
-use lr_trials_wanted::lines;
+use crate::calls::Call;
+use crate::entries::{Case, Start, hold};
+use lr_trials_support::{NEW_ALONE, OLD_AND_NEW};
 use std::test::Fail;
 
-const BOTH: &str = lines!(
-    file 0 vc 0 apid 100 counter 7 bytes 26 packets 1 declared 136 real 128 differs type 2 frames none;
-    file 1 vc 0 apid 100 counter 7 bytes 26 packets 1 declared 136 real 128 differs type 2 frames 0 0 corrected 0;
-    files 2 used 129 capacity 200;
-);
-
-const ONE_GONE: &str = lines!(
-    file 0 discarded;
-    file 1 vc 0 apid 100 counter 7 bytes 26 packets 1 declared 136 real 128 differs type 2 frames 0 0 corrected 0;
-    files 2 used 141 capacity 200;
-);
-
-const LAST_SHOWN: &str = lines!(
-    file 1 vc 0 apid 100 counter 7 bytes 26 packets 1 declared 136 real 128 differs type 2 frames 0 0 corrected 0;
-    record 0 length 16 primary type 2 header 16 bits 0;
-);
+const LAST_SHOWN: &str = "\
+    file 1 vc 0 apid 100 counter 7 bytes 26 packets 1 declared 136 real 128 differs type 2 frames 0 0 corrected 0\n\
+    record 0 length 16 primary type 2 header 16 bits 0\n";
 
 static LISTED: [Case; 2] = [
-    Case(Start::Two, Call::List, 0, BOTH),
-    Case(Start::WithoutFirst, Call::List, 0, ONE_GONE),
+    Case(Start::Two, Call::List, 0, OLD_AND_NEW),
+    Case(Start::WithoutFirst, Call::List, 0, NEW_ALONE),
 ];
 
 static NOT_LISTED: [Case; 3] = [
@@ -32,7 +20,7 @@ static NOT_LISTED: [Case; 3] = [
         Start::Byte(19, 0),
         Call::List,
         0,
-        lines!(files 0 used 20 capacity 200;),
+        "files 0 used 20 capacity 200\n",
     ),
 ];
 
@@ -45,27 +33,22 @@ static SHOWN: [Case; 5] = [
         Start::Old,
         Call::Show(0),
         0,
-        lines!(
-            file 0 vc 0 apid 100 counter 7 bytes 26 packets 1 declared 136 real 128 differs type 2 frames none;
-            record 0 length 16 primary type 2 header 16 bits 0;
-        ),
+        "file 0 vc 0 apid 100 counter 7 bytes 26 packets 1 declared 136 real 128 differs type 2 frames none\n\
+         record 0 length 16 primary type 2 header 16 bits 0\n",
     ),
 ];
 
 #[test]
 fn each_entry_has_its_line(rt: HostRuntime) -> Result<(), Fail> {
-    assert!(rt; hold(rt.alloc(), &LISTED)?);
-    Ok(())
+    hold(rt.alloc(), &LISTED)
 }
 
 #[test]
 fn a_list_ends_where_it_is_refused(rt: HostRuntime) -> Result<(), Fail> {
-    assert!(rt; hold(rt.alloc(), &NOT_LISTED)?);
-    Ok(())
+    hold(rt.alloc(), &NOT_LISTED)
 }
 
 #[test]
 fn a_file_is_shown_with_its_header(rt: HostRuntime) -> Result<(), Fail> {
-    assert!(rt; hold(rt.alloc(), &SHOWN)?);
-    Ok(())
+    hold(rt.alloc(), &SHOWN)
 }

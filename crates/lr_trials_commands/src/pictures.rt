@@ -1,11 +1,9 @@
 //! Images that go out in several pieces.
+use crate::calls::{Call, add, ends};
 use crate::image_files::{file_of, plain_header};
-use crate::shared::{add, is_end, with_room};
-use lr_causes::Cause;
-use lr_cmd_shelf::export::export;
-use lr_disk::{Disk, MemDisk};
-use lr_io::Sink;
+use lr_disk::MemDisk;
 use lr_shelf::Shelf;
+use lr_trials_support::disk;
 use std::alloc::Global;
 use std::test::Fail;
 
@@ -26,27 +24,10 @@ fn data(alloc: Global) -> Result<Vec<u8>, Fail> {
 /// A shelf with this image alone, in two bodies.
 fn with_image(alloc: Global, bits: u8, columns: u16, pixels: &[u8]) -> Result<MemDisk, Fail> {
     let file = file_of(alloc, &[&plain_header(bits, columns, LINES), pixels])?;
-    let mut made = MemDisk::of(alloc, Vec::new(alloc), 50_000, 1_000)?;
+    let mut made = disk(alloc, &[], 1_000)?;
     Shelf::init(&mut made, 50_000)?;
     add(alloc, &mut made, file)?;
     Ok(made)
-}
-
-fn exports<D: Disk, O: Sink>(alloc: Global, disk: &mut D, out: &mut O) -> Cause {
-    export(alloc, 0, disk, out)
-}
-
-/// Whether the export into this much room ends with this status, and has put this text.
-fn ends(
-    alloc: Global,
-    made: &mut MemDisk,
-    room: usize,
-    status: u8,
-    text: &[u8],
-) -> Result<bool, Fail> {
-    let mut out = with_room(alloc, room)?;
-    let cause = exports(alloc, made, &mut out);
-    is_end(cause, &out, status, text)
 }
 
 /// A head and what comes after it.
@@ -62,7 +43,11 @@ fn puts(alloc: Global, bits: u8, columns: u16, head: &[u8]) -> Result<bool, Fail
     let text = joined_bytes(alloc, head, &pixels)?;
     let mut made = with_image(alloc, bits, columns, &pixels)?;
     let front = &text[..33_333.min(text.len())];
-    Ok(ends(alloc, &mut made, 50_000, 0, &text)? && ends(alloc, &mut made, 33_333, 5, front)?)
+    let call = Call::Export(0);
+    Ok(
+        ends(alloc, "all", &mut made, call, 50_000, (0, &text))?
+            && ends(alloc, "little room", &mut made, call, 33_333, (5, front))?,
+    )
 }
 
 #[test]

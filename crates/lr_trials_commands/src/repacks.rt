@@ -1,15 +1,11 @@
 //! Images of the shelf that are coded anew.
+use crate::calls::{Call, add, ended, ends};
+use crate::entries::with_capacity;
 use crate::image_files::file_of;
-use crate::shared::{OLD_SHELF, add, discards, disk, is_end, sink, verifies, with_room};
 use lr_bits::{Origin, Placed};
-use lr_causes::Cause;
-use lr_cmd_shelf::export::export;
-use lr_cmd_shelf::repack::repack;
-use lr_disk::{Disk, MemDisk};
-use lr_io::{MemSink, Sink};
+use lr_disk::MemDisk;
 use lr_shelf::Shelf;
-use lr_shelf_format::old_header_of;
-use lr_trials_wanted::lines;
+use lr_trials_support::{BOTH_OK, OLD_SHELF, bytes_with, disk, is_number};
 use std::alloc::Global;
 use std::test::Fail;
 
@@ -21,35 +17,21 @@ static IMAGE: [u8; 68] = [
     4, 5, 5, 5, 5, 5, 0x8E, 0x72, 0,
 ];
 
-const ONE_FILE: &str = lines!(file 0 ok;);
-
-const TWO_FILES: &str = lines!(
-    file 0 ok;
-    file 1 ok;
-);
+const ONE_FILE: &str = "file 0 ok\n";
 
 /// The line of a shelf on which it was coded anew in blocks of 8, and the image of both files.
-const LINE: &str = lines!(repacked 0 as 1 bytes 51 to 48;);
+const LINE: &str = "repacked 0 as 1 bytes 51 to 48\n";
 
 static PICTURE: [u8; 27] =
     *b"P5\n8 2\n255\n\x05\x05\x05\x05\x05\x05\x05\x05\x05\x06\x04\x05\x05\x05\x05\x05";
 
 /// A shelf of this capacity with the image, with one byte of it changed.
 fn image_shelf(alloc: Global, capacity: u64, place: usize, byte: u8) -> Result<MemDisk, Fail> {
-    let mut bytes = old_header_of(capacity)[..19].to_vec(alloc)?;
-    bytes.extend_from_slice(&IMAGE)?;
-    if let Some(one) = bytes.as_mut_slice().get_mut(place) {
-        *one = byte;
-    }
-    disk(alloc, bytes.as_slice())
+    let bytes = with_capacity(alloc, capacity, &IMAGE)?;
+    Ok(disk(alloc, &bytes_with(alloc, &bytes, place, byte)?, 1_000)?)
 }
 
-/// The run with blocks of 8, over any disk and any sink.
-fn repacks<D: Disk, O: Sink>(alloc: Global, number: u64, disk: &mut D, out: &mut O) -> Cause {
-    repack(alloc, number, 8, disk, out)
-}
-
-/// Whether the run ends with this status, and puts this text.
+/// Whether the file of this number is coded anew with this status, and this is put.
 fn puts(
     alloc: Global,
     number: u64,
@@ -57,42 +39,52 @@ fn puts(
     status: u8,
     text: &str,
 ) -> Result<bool, Fail> {
-    let mut out = sink(alloc)?;
-    let cause = repacks(alloc, number, made, &mut out);
-    is_end(cause, &out, status, text.as_bytes())
+    let wanted = (status, text.as_bytes());
+    ends(alloc, "repack", made, Call::Repack(number), 1_000, wanted)
 }
 
 /// Whether the shelf has this many good files.
 fn has_files(alloc: Global, made: &mut MemDisk, text: &str) -> Result<bool, Fail> {
-    let mut out = sink(alloc)?;
-    let cause = verifies(alloc, made, &mut out);
-    is_end(cause, &out, 0, text.as_bytes())
+    ends(
+        alloc,
+        "after it",
+        made,
+        Call::Verify,
+        1_000,
+        (0, text.as_bytes()),
+    )
 }
 
 /// Whether the image of the file of this number is the one.
 fn shows_picture(alloc: Global, made: &mut MemDisk, number: u64) -> Result<bool, Fail> {
-    let mut out = sink(alloc)?;
-    let cause = export(alloc, number, made, &mut out);
-    is_end(cause, &out, 0, &PICTURE)
-}
-
-/// Where the file of this number came from.
-fn origin_at(alloc: Global, made: &mut MemDisk, number: u64) -> Result<Option<Origin>, Fail> {
-    let mut shelf = Shelf::load(alloc, made)?;
-    Ok(shelf.get(made, number)?.origin)
+    ends(
+        alloc,
+        "after it",
+        made,
+        Call::Export(number),
+        1_000,
+        (0, &PICTURE),
+    )
 }
 
 /// Whether the run over a disk of which one call fails, counted from the run's first, ends with status 4, puts nothing,
 /// and leaves one file or two.
 fn stops_at(alloc: Global, after: u64) -> Result<bool, Fail> {
+    let case = format!(in alloc; "call {after} fails")?;
     let mut made = image_shelf(alloc, 1_000, 1_000, 0)?;
     made.fail_at(after);
-    let stopped = puts(alloc, 0, &mut made, 4, "")?;
-    let mut out = sink(alloc)?;
-    let cause = verifies(alloc, &mut made, &mut out);
-    let has_one = out.as_slice() == ONE_FILE.as_bytes();
-    let files = if has_one { ONE_FILE } else { TWO_FILES };
-    Ok(stopped && is_end(cause, &out, 0, files.as_bytes())?)
+    ends(alloc, &case, &mut made, Call::Repack(0), 1_000, (4, b""))?;
+    let left = ended(alloc, &mut made, Call::Verify, 1_000)?;
+    let has_one = left.out.as_slice() == ONE_FILE.as_bytes();
+    let files = if has_one { ONE_FILE } else { BOTH_OK };
+    ends(
+        alloc,
+        &case,
+        &mut made,
+        Call::Verify,
+        1_000,
+        (0, files.as_bytes()),
+    )
 }
 
 /// Whether a second file with the image of the first one is added.
@@ -100,7 +92,7 @@ fn image_is_coded_anew(alloc: Global) -> Result<bool, Fail> {
     let mut made = image_shelf(alloc, 1_000, 1_000, 0)?;
     Ok(
         puts(alloc, 0, &mut made, 0, LINE)?
-            && has_files(alloc, &mut made, TWO_FILES)?
+            && has_files(alloc, &mut made, BOTH_OK)?
             && shows_picture(alloc, &mut made, 0)?
             && shows_picture(alloc, &mut made, 1)?,
     )
@@ -113,39 +105,46 @@ fn the_new_file_has_the_image_of_the_old_one(rt: HostRuntime) -> Result<(), Fail
 }
 
 /// Whether the file of this number came from these outcomes, with this many changed bytes.
-fn came_from(
-    alloc: Global,
-    made: &mut MemDisk,
-    number: u64,
-    wanted: (u64, u64, u64),
-) -> Result<bool, Fail> {
-    Ok(match origin_at(alloc, made, number)? {
-        Some(origin) => {
-            origin.first == wanted.0 && origin.last == wanted.1 && origin.corrected == wanted.2
-        }
-        None => false,
-    })
+fn came_from(alloc: Global, made: &mut MemDisk, number: u64, wanted: Origin) -> Result<bool, Fail> {
+    let origin = Shelf::load(alloc, made)?
+        .get(made, number)?
+        .origin
+        .ok_or("no origin")?;
+    Ok(
+        is_number("the first outcome", origin.first, wanted.first)?
+            && is_number("the last outcome", origin.last, wanted.last)?
+            && is_number("the changed bytes", origin.corrected, wanted.corrected)?,
+    )
 }
 
-/// Adds the image once more, of the outcomes 3 and 4 with 5 changed bytes.
+const NO_ORIGIN: Origin = Origin {
+    first: 0,
+    last: 0,
+    corrected: 0,
+};
+
+/// The outcomes 3 and 4, with 5 changed bytes.
+const LATER: Origin = Origin {
+    first: 3,
+    last: 4,
+    corrected: 5,
+};
+
+/// Adds the image once more, of those outcomes.
 fn add_again(alloc: Global, made: &mut MemDisk) -> Result<(), Fail> {
     let mut shelf = Shelf::load(alloc, made)?;
     let file = shelf.get(made, 0)?.file;
-    let origin = Origin {
-        first: 3,
-        last: 4,
-        corrected: 5,
-    };
+    let origin = LATER;
     shelf.append(made, &Placed { file, origin })?;
     Ok(())
 }
 
 fn origin_stays(alloc: Global) -> Result<bool, Fail> {
     let mut made = image_shelf(alloc, 1_000, 1_000, 0)?;
-    let old = puts(alloc, 0, &mut made, 0, LINE)? && came_from(alloc, &mut made, 1, (0, 0, 0))?;
+    let old = puts(alloc, 0, &mut made, 0, LINE)? && came_from(alloc, &mut made, 1, NO_ORIGIN)?;
     add_again(alloc, &mut made)?;
-    let line = lines!(repacked 2 as 3 bytes 51 to 48;);
-    let new = puts(alloc, 2, &mut made, 0, line)? && came_from(alloc, &mut made, 3, (3, 4, 5))?;
+    let line = "repacked 2 as 3 bytes 51 to 48\n";
+    let new = puts(alloc, 2, &mut made, 0, line)? && came_from(alloc, &mut made, 3, LATER)?;
     Ok(old && new)
 }
 
@@ -157,14 +156,14 @@ fn the_origin_stays_and_is_zero_for_an_old_file(rt: HostRuntime) -> Result<(), F
 
 /// Whether a run over these bytes is refused with this status.
 fn is_refused(alloc: Global, bytes: &[u8], status: u8) -> Result<bool, Fail> {
-    puts(alloc, 0, &mut disk(alloc, bytes)?, status, "")
+    puts(alloc, 0, &mut disk(alloc, bytes, 1_000)?, status, "")
 }
 
 /// Whether a number that isn't there and a discarded one are refused, and the shelf stays.
 fn missing_is_refused(alloc: Global) -> Result<bool, Fail> {
     let mut made = image_shelf(alloc, 1_000, 1_000, 0)?;
     let missing = puts(alloc, 1, &mut made, 7, "")? && has_files(alloc, &mut made, ONE_FILE)?;
-    let _ = discards(alloc, 0, &mut made, &mut sink(alloc)?);
+    let _ = ended(alloc, &mut made, Call::Discard(0), 1_000)?;
     Ok(missing && puts(alloc, 0, &mut made, 13, "")?)
 }
 
@@ -173,7 +172,7 @@ fn what_is_refused_leaves_the_shelf(rt: HostRuntime) -> Result<(), Fail> {
     let alloc = rt.alloc();
     assert!(rt; is_refused(alloc, b"no shelf", 6)?);
     // A text is no image.
-    assert!(rt; is_refused(alloc, &OLD_SHELF, 8)?);
+    assert!(rt; is_refused(alloc, OLD_SHELF, 8)?);
     // Another byte of the image has another checksum.
     assert!(rt; puts_with(alloc, 1_000, 80, 12, "")?);
     assert!(rt; missing_is_refused(alloc)?);
@@ -220,7 +219,7 @@ static NIBBLES: [u8; 36] = [
 fn four_bits_are_refused(alloc: Global) -> Result<bool, Fail> {
     let mut made = image_shelf(alloc, 1_000, 1_000, 0)?;
     add(alloc, &mut made, file_of(alloc, &[&NIBBLES])?)?;
-    Ok(puts(alloc, 1, &mut made, 16, "")? && has_files(alloc, &mut made, TWO_FILES)?)
+    Ok(puts(alloc, 1, &mut made, 16, "")? && has_files(alloc, &mut made, BOTH_OK)?)
 }
 
 #[test]
@@ -232,10 +231,15 @@ fn four_bits_have_a_status_of_their_own(rt: HostRuntime) -> Result<(), Fail> {
 /// Whether an output that fails ends it in its line, and both files are there.
 fn output_ends_it(alloc: Global) -> Result<bool, Fail> {
     let mut made = image_shelf(alloc, 1_000, 1_000, 0)?;
-    let mut out: MemSink = with_room(alloc, 9)?;
-    let cause = repacks(alloc, 0, &mut made, &mut out);
-    let words = lines!(repacked..).as_bytes();
-    Ok(is_end(cause, &out, 5, words)? && has_files(alloc, &mut made, TWO_FILES)?)
+    ends(
+        alloc,
+        "little room",
+        &mut made,
+        Call::Repack(0),
+        9,
+        (5, b"repacked "),
+    )?;
+    has_files(alloc, &mut made, BOTH_OK)
 }
 
 /// Calls of the disk that fail, each in a run of its own.
@@ -245,7 +249,7 @@ static FAILING: [u64; 6] = [0, 5, 6, 7, 8, 9];
 fn an_output_or_a_disk_that_fails_ends_it(rt: HostRuntime) -> Result<(), Fail> {
     assert!(rt; output_ends_it(rt.alloc())?);
     for call in &FAILING {
-        assert!(rt; stops_at(rt.alloc(), *call)?, "call {call}");
+        stops_at(rt.alloc(), *call)?;
     }
     Ok(())
 }

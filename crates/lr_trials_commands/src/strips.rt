@@ -6,6 +6,7 @@ use lr_gatecore::Work;
 use lr_image::{Image, ImageFault, image_of};
 use lr_render::{Coding, Plan, RenderWork, Strip, StripSource, outcome_in_strips};
 use lr_rice::RiceFault;
+use lr_trials_support::is_number;
 use std::alloc::Global;
 use std::test::Fail;
 
@@ -39,19 +40,18 @@ fn is_short(alloc: Global, file: MissionFile, wanted: u64) -> bool {
     matches!(outcome_in_strips(alloc, file), Ok(Err(ImageFault::Short { pixels })) if pixels == wanted)
 }
 
-/// Whether the strips of a file have these numbers of lines.
+/// Whether the strips of a file have these numbers of lines. Where they don't, the failure says which.
 fn has_strips(alloc: Global, file: MissionFile, wanted: &[u32]) -> Result<bool, Fail> {
-    let Ok(mut plan) = Plan::new(alloc, file) else {
-        return Ok(false);
-    };
+    let mut plan = Plan::new(alloc, file).ok().ok_or("no plan")?;
     let mut work = RenderWork::new();
-    for lines in wanted {
-        let Some(strip) = plan.next_strip()? else {
-            return Ok(false);
-        };
-        if work.run(strip).lines() != *lines {
-            return Ok(false);
-        }
+    for (place, lines) in wanted.iter().enumerate() {
+        let strip = plan.next_strip()?.ok_or("too few strips")?;
+        let came = work.run(strip).lines();
+        is_number(
+            format_args!("the lines of strip {place}"),
+            u64::from(came),
+            u64::from(*lines),
+        )?;
     }
     Ok(plan.next_strip()?.is_none())
 }
@@ -101,22 +101,22 @@ fn lines_of_twelve_bits_are_tiled(rt: HostRuntime) -> Result<(), Fail> {
     Ok(())
 }
 
-/// Whether images of all depths are read alike. They have two strips, of 63 lines and of 2, and the second one of most
+/// That images of all depths are read alike. They have two strips, of 63 lines and of 2, and the second one of most
 /// of them begins inside a byte.
-fn are_alike_at_all_depths(alloc: Global) -> Result<bool, Fail> {
+fn are_alike_at_all_depths(alloc: Global) -> Result<(), Fail> {
     for bits in 1..17u8 {
         let size = (usize::from(bits) * 65 * 1_025).div_ceil(8);
         if !is_alike(alloc, plain_file(alloc, bits, 1_025, 65, size)?, 66_625) {
-            return Ok(false);
+            return Err(Fail::new(format_args!("an image of {bits} bits is read in two ways")));
         }
     }
-    Ok(true)
+    Ok(())
 }
 
 #[test]
 fn images_of_one_to_sixteen_bits_are_tiled(rt: HostRuntime) -> Result<(), Fail> {
     let alloc = rt.alloc();
-    assert!(rt; are_alike_at_all_depths(alloc)?);
+    are_alike_at_all_depths(alloc)?;
     assert!(rt; has_strips(alloc, plain_file(alloc, 1, 1_025, 65, 8_329)?, &[63, 2])?);
     Ok(())
 }

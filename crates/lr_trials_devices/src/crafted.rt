@@ -1,8 +1,7 @@
 //! Shelves that no station wrote, each refused by its cause. The checksums are those of `reference/shelf.py`.
-use crate::calls::{Trouble, disk, ends_so, is_out, reading, run};
-use crate::steps::{Step, follows};
-use lr_disk::MemDisk;
-use lr_trials_wanted::lines;
+use lr_trials_station::call::called;
+use lr_trials_station::steps::{Step, hold_on};
+use lr_trials_support::{DISCARDED_0, DONE, End, NO_SHELF_AT_19, bytes_with, disk, faultless};
 use std::alloc::Global;
 use std::test::Fail;
 
@@ -57,66 +56,50 @@ static AFTER_A_DISCARD: [&[u8]; 1] = [
 ];
 
 /// The bytes of a shelf that has these pieces from the first gate on.
-fn shelf_of(alloc: Global, front: &[u8], items: &[u8], back: &[u8]) -> Result<MemDisk, Trouble> {
+fn joined(alloc: Global, pieces: &[&[u8]]) -> Result<Vec<u8>, Fail> {
     let mut bytes = HEADER.to_vec(alloc)?;
-    bytes.extend_from_slice(front)?;
-    bytes.extend_from_slice(items)?;
-    bytes.extend_from_slice(back)?;
-    disk(alloc, &bytes)
+    for piece in pieces {
+        bytes.extend_from_slice(piece)?;
+    }
+    Ok(bytes)
 }
 
-/// Whether `list` refuses each shelf with this line, where these pieces stand before and after the items.
+/// That `list` refuses each shelf by this gate, where these pieces stand before and after the items.
 fn are_refused(
     alloc: Global,
     front: &[u8],
     all: &[&[u8]],
     back: &[u8],
-    line: &str,
-) -> Result<bool, Trouble> {
-    for items in all {
-        let mut made = shelf_of(alloc, front, items, back)?;
-        let printed = run(alloc, &mut made, reading(&["list"], &[]))?;
-        if !ends_so(&printed, 6, line) || !is_out(&printed, "") {
-            return Ok(false);
-        }
+    gate: usize,
+) -> Result<(), Fail> {
+    let line = format!(in alloc; "station: not a shelf at {gate}\n")?;
+    for (number, items) in all.iter().enumerate() {
+        let name = format!(in alloc; "shelf {number} with a fault at {gate}")?;
+        let mut made = disk(alloc, &joined(alloc, &[front, items, back])?, 400)?;
+        called(alloc, &mut made, &faultless("list", &[], 1))?.ended_so(&name, &[], End(6, &line))?;
     }
-    Ok(true)
+    Ok(())
 }
 
 #[test]
 fn a_broken_shelf_is_named_by_its_gate(rt: HostRuntime) -> Result<(), Fail> {
     let alloc = rt.alloc();
-    let first = lines!(station: not a shelf at 19;);
-    let second = lines!(station: not a shelf at 86;);
-    assert!(rt; are_refused(alloc, &[], &CUT_OFF, &[], first)?);
-    assert!(rt; are_refused(alloc, FILE, &CUT_OFF, &[], second)?);
-    assert!(rt; are_refused(alloc, &[], &FIRST, CLOSED, first)?);
-    assert!(rt; are_refused(alloc, FILE, &AFTER_A_FILE, CLOSED, second)?);
-    let third = lines!(station: not a shelf at 98;);
-    assert!(rt; are_refused(alloc, FILE, &AFTER_A_DISCARD, CLOSED, third)?);
-    Ok(())
+    are_refused(alloc, &[], &CUT_OFF, &[], 19)?;
+    are_refused(alloc, FILE, &CUT_OFF, &[], 86)?;
+    are_refused(alloc, &[], &FIRST, CLOSED, 19)?;
+    are_refused(alloc, FILE, &AFTER_A_FILE, CLOSED, 86)?;
+    are_refused(alloc, FILE, &AFTER_A_DISCARD, CLOSED, 98)
 }
-
-const AT_19: &str = lines!(station: not a shelf at 19;);
 
 /// A file of 26 bytes whose only length says 25: no command reads it, and it is discarded.
 static WITHOUT_THE_FILE: [Step; 6] = [
-    (&["list"], 6, AT_19),
-    (&["verify"], 6, AT_19),
-    (&["show", "0"], 6, AT_19),
-    (&["extract", "0"], 6, AT_19),
-    (&["discard", "0"], 0, lines!(discarded 0;)),
-    (&["verify"], 0, lines!(file 0 discarded;)),
+    Step::Call("list", "", NO_SHELF_AT_19),
+    Step::Call("verify", "", NO_SHELF_AT_19),
+    Step::Call("show 0", "", NO_SHELF_AT_19),
+    Step::Call("extract 0", "", NO_SHELF_AT_19),
+    Step::Call("discard 0", DISCARDED_0, DONE),
+    Step::Call("verify", "file 0 discarded\n", DONE),
 ];
-
-fn lengths_do_not_sum(alloc: Global) -> Result<bool, Fail> {
-    let mut bytes = FILE.to_vec(alloc)?;
-    if let Some(length) = bytes.get_mut(38) {
-        *length = 25;
-    }
-    let mut made = shelf_of(alloc, &bytes, &[0], &[])?;
-    follows(alloc, &mut made, &[], &WITHOUT_THE_FILE)
-}
 
 /// How many damaged items there are.
 const DAMAGED: usize = 10_000;
@@ -126,58 +109,51 @@ const DAMAGED_ITEM: &[u8] = b"\x01\x80\x00\x00\x64\x00\x00\x00\x01\x00\x00\x00\x
 \x00\x00\x00\x00\x00\x00\x00\x00\x00\x00\x00\x00\x00\x00\x00\x00\x00\x00\x00\x00\x00\x00\x00\x00\x00\x0B\
 \x00\x00\x00\x00\x00\x00\x00\x00\x00\x00\x00\x00";
 
-/// The room of a disk with all of them, in bytes.
-const DAMAGED_ROOM: usize = 600_000;
-
-/// A shelf of damaged items, and what stands from the last gate on.
-fn damaged_shelf(alloc: Global, last: &[u8]) -> Result<MemDisk, Trouble> {
+/// That these steps over a shelf of damaged items, with this from the last gate on, come to what they must.
+fn damaged_hold(alloc: Global, last: &[u8], steps: &[Step]) -> Result<(), Fail> {
     let mut bytes = HEADER.to_vec(alloc)?;
     for _ in 0..DAMAGED {
         bytes.extend_from_slice(DAMAGED_ITEM)?;
     }
     bytes.extend_from_slice(last)?;
-    if bytes.len() > DAMAGED_ROOM {
-        return Err(Trouble::NotMade);
-    }
-    Ok(MemDisk::of(alloc, bytes, DAMAGED_ROOM as u64, 400)?)
+    let _ = hold_on(alloc, disk(alloc, &bytes, 400)?, steps, 0)?;
+    Ok(())
 }
 
 /// The items are passed, and each is refused by itself.
 static PASSED: [Step; 4] = [
-    (&["verify"], 6, AT_19),
-    (
-        &["extract", "9999"],
-        6,
-        lines!(station: not a shelf at 509968;),
+    Step::Call("verify", "", NO_SHELF_AT_19),
+    Step::Call(
+        "extract 9999",
+        "",
+        End(6, "station: not a shelf at 509968\n"),
     ),
-    (
-        &["extract", "10000"],
-        7,
-        lines!(station: no such file, count 10000;),
+    Step::Call(
+        "extract 10000",
+        "",
+        End(7, "station: no such file, count 10000\n"),
     ),
-    (&["discard", "9999"], 0, lines!(discarded 9999;)),
+    Step::Call("discard 9999", "discarded 9999\n", DONE),
 ];
 
 /// The last one is no item, so there is no shelf.
-static BROKEN_OFF: [Step; 1] = [(
-    &["extract", "0"],
-    6,
-    lines!(station: not a shelf at 510019;),
+static BROKEN_OFF: [Step; 1] = [Step::Call(
+    "extract 0",
+    "",
+    End(6, "station: not a shelf at 510019\n"),
 )];
-
-fn follows_damaged(alloc: Global, last: &[u8], steps: &[Step]) -> Result<bool, Fail> {
-    follows(alloc, &mut damaged_shelf(alloc, last)?, &[], steps)
-}
 
 #[test]
 fn a_file_whose_lengths_do_not_sum_is_named_by_its_gate(rt: HostRuntime) -> Result<(), Fail> {
-    assert!(rt; lengths_do_not_sum(rt.alloc())?);
+    let alloc = rt.alloc();
+    let file = bytes_with(alloc, FILE, 38, 25)?;
+    let made = disk(alloc, &joined(alloc, &[&file, &[0]])?, 400)?;
+    let _ = hold_on(alloc, made, &WITHOUT_THE_FILE, 0)?;
     Ok(())
 }
 
 #[test]
 fn ten_thousand_damaged_items_are_walked(rt: HostRuntime) -> Result<(), Fail> {
-    assert!(rt; follows_damaged(rt.alloc(), &[0], &PASSED)?);
-    assert!(rt; follows_damaged(rt.alloc(), &[1, 0x7F], &BROKEN_OFF)?);
-    Ok(())
+    damaged_hold(rt.alloc(), &[0], &PASSED)?;
+    damaged_hold(rt.alloc(), &[1, 0x7F], &BROKEN_OFF)
 }

@@ -3,13 +3,9 @@
 #![tactic(auto)]
 
 #[cfg(test)]
-mod calls;
-#[cfg(test)]
 mod crafted;
 #[cfg(test)]
 mod failing;
-#[cfg(test)]
-mod given;
 #[cfg(test)]
 mod jobs;
 #[cfg(test)]
@@ -19,8 +15,8 @@ mod refused;
 #[cfg(test)]
 mod shown;
 #[cfg(test)]
-mod steps;
-#[cfg(test)]
 mod stops;
+#[cfg(test)]
+mod trouble;
 #[cfg(test)]
 mod versions;

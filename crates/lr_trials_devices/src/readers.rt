@@ -1,8 +1,12 @@
 //! A source over a reader that fails once.
-use crate::calls::{Trouble, bytes_of, disk, ends_so, is_out, reading, run_from};
-use crate::given::{EMPTY, FILE_7, FILE_8, FRAMES};
+use crate::jobs::HEADER_65536;
 use lr_io::{ReadSource, Source, StdReader};
-use lr_trials_wanted::lines;
+use lr_station::station_alone;
+use lr_trials_station::steps::FRAMES;
+use lr_trials_support::{
+    FILE_7, FILE_8, RECEIVED_ONE, SOURCE_FAILED, disk, faultless, frames_of, is_number, parts_of,
+    shelf_bytes,
+};
 use std::alloc::Global;
 use std::io::{self, ErrorKind, Read};
 use std::test::Fail;
@@ -56,34 +60,35 @@ fn reads(source: &ReadSource<StdReader<FailsOnce>>) -> u32 {
 
 /// Three bytes, with a failure between the first two and the third: nothing is lost, and the call that fails reads
 /// once.
-fn loses_nothing(alloc: Global) -> Result<bool, Trouble> {
-    let mut source = failing_source([7, 8, 9].to_vec(alloc)?);
-    let first = take(&mut source) == Some((2, 7));
-    let failed = take(&mut source).is_none() && reads(&source) == 2;
-    let last = take(&mut source) == Some((1, 9));
-    Ok(first && failed && last && take(&mut source) == Some((0, 0)))
-}
-
-const ONE_FILE: &str = lines!(
-    shelved 0 vc 0 apid 100 counter 7 bytes 26 packets 1;
-    symbols 892 frames 1 restored 1 lost 0 packets 1 files 1 left 0 stop fault;
-);
-
-/// Of two frames the first is read, and then the reader fails: the station doesn't ask again.
-fn ends_the_input(alloc: Global) -> Result<bool, Trouble> {
-    let mut made = disk(alloc, EMPTY)?;
-    let mut source = failing_source(bytes_of(alloc, &[FILE_7, FILE_8])?);
-    let printed = run_from(alloc, &mut made, reading(&FRAMES, &[]), &mut source)?;
-    Ok(
-        ends_so(&printed, 3, lines!(station: source failed;))
-            && is_out(&printed, ONE_FILE)
-            && reads(&source) == 2,
-    )
-}
-
 #[test]
 fn a_reader_that_fails_once_loses_nothing(rt: HostRuntime) -> Result<(), Fail> {
-    assert!(rt; loses_nothing(rt.alloc())?);
+    let mut source = failing_source([7, 8, 9].to_vec(rt.alloc())?);
+    assert_eq!(rt; take(&mut source), Some((2, 7)));
+    assert_eq!(rt; take(&mut source), None);
+    assert_eq!(rt; reads(&source), 2);
+    assert_eq!(rt; take(&mut source), Some((1, 9)));
+    assert_eq!(rt; take(&mut source), Some((0, 0)));
     assert!(rt; ends_the_input(rt.alloc())?);
     Ok(())
+}
+
+/// Of two frames the first is read, and then the reader fails: the station doesn't ask again.
+fn ends_the_input(alloc: Global) -> Result<bool, Fail> {
+    let mut made = disk(alloc, &shelf_bytes(alloc, HEADER_65536, &[])?, 400)?;
+    let mut source = failing_source(frames_of(alloc, &[FILE_7, FILE_8])?);
+    let mut parts = parts_of(alloc, &faultless(FRAMES, &[], 1))?;
+    let status = station_alone(
+        alloc,
+        &parts.words,
+        &mut source,
+        &mut made,
+        &mut parts.out,
+        &mut parts.err,
+    );
+    Ok(
+        parts
+            .ended(status)
+            .ended_so(FRAMES, RECEIVED_ONE.as_bytes(), SOURCE_FAILED)?
+            && is_number("the reads", u64::from(reads(&source)), 2)?,
+    )
 }

@@ -1,10 +1,7 @@
 //! `list` and `show` of files whose headers have records of many kinds, and each fault. The frame and the texts are
 //! those of `reference/headers.py`.
-use crate::calls::disk;
-use crate::given::FRAMES;
-use crate::steps::{Step, follows};
-use lr_trials_wanted::lines;
-use std::alloc::Global;
+use lr_trials_station::steps::{FRAMES, Piece, Step, hold};
+use lr_trials_support::{DONE, End};
 use std::test::Fail;
 
 /// A frame with six files. The header of the first has records of the kinds 0 to 7, 128 and 131, and such ones of
@@ -35,92 +32,79 @@ const SIX_FILES: &[u8] = b"\x40\x40\x00\x00\x00\x00\x00\x00\
 \x00\x00\x10\x02\x00\x00\x00\x1B\x00\x00\x00\x00\x00\x00\x06\x40\x05\x00\x0B\x00\x00\x00\x00\x00\x00\x00\x00\x8B\x56\
 \x07\xFF\xC0\x00\x01\xA4";
 
-const RECEIVED: &str = lines!(
-    shelved 0 vc 0 apid 100 counter 0 bytes 258 packets 1;
-    shelved 1 vc 0 apid 100 counter 1 bytes 25 packets 1;
-    shelved 2 vc 0 apid 100 counter 2 bytes 26 packets 1;
-    shelved 3 vc 0 apid 100 counter 3 bytes 32 packets 1;
-    shelved 4 vc 0 apid 100 counter 4 bytes 31 packets 1;
-    shelved 5 vc 0 apid 100 counter 5 bytes 37 packets 1;
-    symbols 892 frames 1 restored 1 lost 0 packets 6 files 6 left 0 stop end;
-);
+const RECEIVED: &str = "shelved 0 vc 0 apid 100 counter 0 bytes 258 packets 1\n\
+                        shelved 1 vc 0 apid 100 counter 1 bytes 25 packets 1\n\
+                        shelved 2 vc 0 apid 100 counter 2 bytes 26 packets 1\n\
+                        shelved 3 vc 0 apid 100 counter 3 bytes 32 packets 1\n\
+                        shelved 4 vc 0 apid 100 counter 4 bytes 31 packets 1\n\
+                        shelved 5 vc 0 apid 100 counter 5 bytes 37 packets 1\n\
+                        symbols 892 frames 1 restored 1 lost 0 packets 6 files 6 left 0 stop end\n";
 
-const LISTED: &str = lines!(
-    file 0 vc 0 apid 100 counter 0 bytes 258 packets 1 declared 1984 real 1984 same type 0 frames 0 0 corrected 0;
-    file 1 vc 0 apid 100 counter 1 bytes 25 packets 1 declared 120 real 120 same type fault frames 0 0 corrected 0;
-    file 2 vc 0 apid 100 counter 2 bytes 26 packets 1 declared 128 real 128 same type fault frames 0 0 corrected 0;
-    file 3 vc 0 apid 100 counter 3 bytes 32 packets 1 declared 176 real 176 same type fault frames 0 0 corrected 0;
-    file 4 vc 0 apid 100 counter 4 bytes 31 packets 1 declared 168 real 168 same type fault frames 0 0 corrected 0;
-    file 5 vc 0 apid 100 counter 5 bytes 37 packets 1 declared 216 real 216 same type fault frames 0 0 corrected 0;
-    files 6 used 675 capacity 1000;
-);
+const LISTED: &str = "\
+    file 0 vc 0 apid 100 counter 0 bytes 258 packets 1 declared 1984 real 1984 same type 0 frames 0 0 corrected 0\n\
+    file 1 vc 0 apid 100 counter 1 bytes 25 packets 1 declared 120 real 120 same type fault frames 0 0 corrected 0\n\
+    file 2 vc 0 apid 100 counter 2 bytes 26 packets 1 declared 128 real 128 same type fault frames 0 0 corrected 0\n\
+    file 3 vc 0 apid 100 counter 3 bytes 32 packets 1 declared 176 real 176 same type fault frames 0 0 corrected 0\n\
+    file 4 vc 0 apid 100 counter 4 bytes 31 packets 1 declared 168 real 168 same type fault frames 0 0 corrected 0\n\
+    file 5 vc 0 apid 100 counter 5 bytes 37 packets 1 declared 216 real 216 same type fault frames 0 0 corrected 0\n\
+    files 6 used 675 capacity 1000\n";
 
 /// An empty text and an empty name leave their space.
-const EACH_KIND: &str = lines!(
-    file 0 vc 0 apid 100 counter 0 bytes 258 packets 1 declared 1984 real 1984 same type 0 frames 0 0 corrected 0;
-    record 0 length 16 primary type 0 header 248 bits 1600;
-    record 1 length 9 image bits 8 columns 64 lines 256 compression 2;
-    record 2 length 51 navigation "GEOS\\x00(-75.2) \\x1F" 20466275 -20466275 5500 -1;
-    record 2 length 51 navigation "" 0 0 0 0;
-    record 3 length 15 text "$HALFTONE:=8";
-    record 4 length 9 text "\\x1F \\x5C~\\x7F\\xFF";
-    record 4 length 3 text "";
-    record 6 length 3 text "";
-    record 5 length 10 stamp "1970-01-01T23:59:59.999Z";
-    record 5 length 10 stamp form 65 days 7 milliseconds 9;
-    record 7 length 4 key;
-    record 128 length 17 segment 1 2 3 4 5 6 256;
-    record 128 length 16 other;
-    record 131 length 7 lossless flags 49 block 16 lines 1;
-    record 131 length 8 other;
-    record 0 length 16 other;
-    record 200 length 3 other;
-);
+const EACH_KIND: &str = "\
+    file 0 vc 0 apid 100 counter 0 bytes 258 packets 1 declared 1984 real 1984 same type 0 frames 0 0 corrected 0\n\
+    record 0 length 16 primary type 0 header 248 bits 1600\n\
+    record 1 length 9 image bits 8 columns 64 lines 256 compression 2\n\
+    record 2 length 51 navigation GEOS\\x00(-75.2) \\x1F 20466275 -20466275 5500 -1\n\
+    record 2 length 51 navigation  0 0 0 0\n\
+    record 3 length 15 text $HALFTONE:=8\n\
+    record 4 length 9 text \\x1F \\x5C~\\x7F\\xFF\n\
+    record 4 length 3 text \n\
+    record 6 length 3 text \n\
+    record 5 length 10 stamp 1970-01-01T23:59:59.999Z\n\
+    record 5 length 10 stamp form 65 days 7 milliseconds 9\n\
+    record 7 length 4 key\n\
+    record 128 length 17 segment 1 2 3 4 5 6 256\n\
+    record 128 length 16 other\n\
+    record 131 length 7 lossless flags 49 block 16 lines 1\n\
+    record 131 length 8 other\n\
+    record 0 length 16 other\n\
+    record 200 length 3 other\n";
 
-const ENDED: &str = lines!(
-    file 1 vc 0 apid 100 counter 1 bytes 25 packets 1 declared 120 real 120 same type fault frames 0 0 corrected 0;
-    header fault ended 15;
-);
+const ENDED: &str = "\
+    file 1 vc 0 apid 100 counter 1 bytes 25 packets 1 declared 120 real 120 same type fault frames 0 0 corrected 0\n\
+    header fault ended 15\n";
 
-const NOT_PRIMARY: &str = lines!(
-    file 2 vc 0 apid 100 counter 2 bytes 26 packets 1 declared 128 real 128 same type fault frames 0 0 corrected 0;
-    header fault not-primary;
-);
+const NOT_PRIMARY: &str = "\
+    file 2 vc 0 apid 100 counter 2 bytes 26 packets 1 declared 128 real 128 same type fault frames 0 0 corrected 0\n\
+    header fault not-primary\n";
 
-const SHORT: &str = lines!(
-    file 3 vc 0 apid 100 counter 3 bytes 32 packets 1 declared 176 real 176 same type fault frames 0 0 corrected 0;
-    header fault short 19;
-);
+const SHORT: &str = "\
+    file 3 vc 0 apid 100 counter 3 bytes 32 packets 1 declared 176 real 176 same type fault frames 0 0 corrected 0\n\
+    header fault short 19\n";
 
-const OVERRUN: &str = lines!(
-    file 4 vc 0 apid 100 counter 4 bytes 31 packets 1 declared 168 real 168 same type fault frames 0 0 corrected 0;
-    header fault overrun 19;
-);
+const OVERRUN: &str = "\
+    file 4 vc 0 apid 100 counter 4 bytes 31 packets 1 declared 168 real 168 same type fault frames 0 0 corrected 0\n\
+    header fault overrun 19\n";
 
-const WRONG_LENGTH: &str = lines!(
-    file 5 vc 0 apid 100 counter 5 bytes 37 packets 1 declared 216 real 216 same type fault frames 0 0 corrected 0;
-    header fault length 5 11;
-);
+const WRONG_LENGTH: &str = "\
+    file 5 vc 0 apid 100 counter 5 bytes 37 packets 1 declared 216 real 216 same type fault frames 0 0 corrected 0\n\
+    header fault length 5 11\n";
 
-static STEPS: [Step; 10] = [
-    (&["init", "1000"], 0, lines!(shelf capacity 1000;)),
-    (&FRAMES, 0, RECEIVED),
-    (&["list"], 0, LISTED),
-    (&["show", "0"], 0, EACH_KIND),
-    (&["show", "1"], 0, ENDED),
-    (&["show", "2"], 0, NOT_PRIMARY),
-    (&["show", "3"], 0, SHORT),
-    (&["show", "4"], 0, OVERRUN),
-    (&["show", "5"], 0, WRONG_LENGTH),
-    (&["show", "6"], 7, lines!(station: no such file, count 6;)),
-];
-
-fn all_are_shown(alloc: Global) -> Result<bool, Fail> {
-    follows(alloc, &mut disk(alloc, &[])?, &[SIX_FILES], &STEPS)
-}
+static SHOWN: [&[Step]; 1] = [&[
+    Step::Call("init 1000", "shelf capacity 1000\n", DONE),
+    Step::Reads(&[Piece::Frame(SIX_FILES)]),
+    Step::Call(FRAMES, RECEIVED, DONE),
+    Step::Call("list", LISTED, DONE),
+    Step::Call("show 0", EACH_KIND, DONE),
+    Step::Call("show 1", ENDED, DONE),
+    Step::Call("show 2", NOT_PRIMARY, DONE),
+    Step::Call("show 3", SHORT, DONE),
+    Step::Call("show 4", OVERRUN, DONE),
+    Step::Call("show 5", WRONG_LENGTH, DONE),
+    Step::Call("show 6", "", End(7, "station: no such file, count 6\n")),
+]];
 
 #[test]
 fn each_file_is_listed_and_shown_with_its_header(rt: HostRuntime) -> Result<(), Fail> {
-    assert!(rt; all_are_shown(rt.alloc())?);
-    Ok(())
+    hold(rt.alloc(), &SHOWN)
 }

@@ -1,59 +1,32 @@
 //! A shelf of version 1, through the station.
-use crate::calls::disk;
-use crate::given::{FILE_7, FRAMES};
-use crate::steps::{Step, follows};
-use lr_trials_wanted::lines;
-use std::alloc::Global;
+use lr_trials_station::steps::{FRAMES, READS_7, Step, hold_on};
+use lr_trials_support::{
+    DISCARDED_0, DONE, GONE, NEW_ALONE, NO_THIRD_FILE, OLD_AND_NEW, OLD_SHELF, disk, is_text,
+};
 use std::test::Fail;
 
-/// A shelf of version 1 and capacity 200, as a program of version 1 wrote it: one file of 26 bytes. It is that of
-/// `reference/shelf.py`.
-const OLD_SHELF: &[u8] = b"\x5ALRSHELF\x01\x00\x00\x00\x00\x00\x00\x00\xC8\xB9\x71\
-\x01\x00\x00\x64\x00\x00\x00\x01\x00\x00\x00\x1A\x00\x1A\
-\x00\x07\x00\x00\x00\x00\x00\x00\x00\x88\x00\x00\x10\x02\x00\x00\x00\x10\x00\x00\x00\x00\x00\x00\x00\x00\x8B\xCA\x00";
-
-const RECEIVED: &str = lines!(
-    shelved 1 vc 0 apid 100 counter 7 bytes 26 packets 1;
-    symbols 892 frames 1 restored 1 lost 0 packets 1 files 1 left 0 stop end;
-);
-
-const OLD_AND_NEW: &str = lines!(
-    file 0 vc 0 apid 100 counter 7 bytes 26 packets 1 declared 136 real 128 differs type 2 frames none;
-    file 1 vc 0 apid 100 counter 7 bytes 26 packets 1 declared 136 real 128 differs type 2 frames 0 0 corrected 0;
-    files 2 used 129 capacity 200;
-);
-
-const NEW_ALONE: &str = lines!(
-    file 0 discarded;
-    file 1 vc 0 apid 100 counter 7 bytes 26 packets 1 declared 136 real 128 differs type 2 frames 0 0 corrected 0;
-    files 2 used 141 capacity 200;
-);
-
-const GONE: &str = lines!(station: discarded;);
-
-static STEPS: [Step; 7] = [
-    (&FRAMES, 0, RECEIVED),
-    (&["list"], 0, OLD_AND_NEW),
-    (&["discard", "0"], 0, lines!(discarded 0;)),
-    (&["list"], 0, NEW_ALONE),
-    (&["extract", "0"], 13, GONE),
-    (&["discard", "0"], 13, GONE),
-    (
-        &["discard", "2"],
-        7,
-        lines!(station: no such file, count 2;),
+static STEPS: [Step; 8] = [
+    READS_7,
+    Step::Call(
+        FRAMES,
+        "shelved 1 vc 0 apid 100 counter 7 bytes 26 packets 1\n\
+         symbols 892 frames 1 restored 1 lost 0 packets 1 files 1 left 0 stop end\n",
+        DONE,
     ),
+    Step::Call("list", OLD_AND_NEW, DONE),
+    Step::Call("discard 0", DISCARDED_0, DONE),
+    Step::Call("list", NEW_ALONE, DONE),
+    Step::Call("extract 0", "", GONE),
+    Step::Call("discard 0", "", GONE),
+    Step::Call("discard 2", "", NO_THIRD_FILE),
 ];
 
 /// A file is received after the old one, and the old one is discarded. Its header and its item stay as they were.
-fn goes_on(alloc: Global) -> Result<bool, Fail> {
-    let mut shelf = disk(alloc, OLD_SHELF)?;
-    let followed = follows(alloc, &mut shelf, &[FILE_7], &STEPS)?;
-    Ok(followed && shelf.as_slice().starts_with(&OLD_SHELF[..61]))
-}
-
 #[test]
 fn a_shelf_of_version_1_goes_on(rt: HostRuntime) -> Result<(), Fail> {
-    assert!(rt; goes_on(rt.alloc())?);
+    let alloc = rt.alloc();
+    let left = hold_on(alloc, disk(alloc, OLD_SHELF, 400)?, &STEPS, 0)?;
+    let bytes = left.as_slice();
+    assert!(rt; is_text("the front", &bytes[..bytes.len().min(61)], &OLD_SHELF[..61])?);
     Ok(())
 }

@@ -24,28 +24,26 @@ static KEYED: [u8; 67] = [
     0, 0, 0, 0, 0, 0, 0, 0, 0, 0, 0, 0, 0x80, 0x00, 0x11, 0, 1, 0, 2, 0, 3, 0, 4, 0, 5, 0, 6, 0, 7,
 ];
 
-fn is_same(found: HeaderFault, wanted: HeaderFault) -> bool {
-    match (found, wanted) {
-        (HeaderFault::Ended { at }, HeaderFault::Ended { at: other }) => at == other,
-        (HeaderFault::NotPrimary, HeaderFault::NotPrimary) => true,
-        (HeaderFault::ShortRecord { at }, HeaderFault::ShortRecord { at: other }) => at == other,
-        (HeaderFault::Overrun { at }, HeaderFault::Overrun { at: other }) => at == other,
-        (
-            HeaderFault::WrongLength { kind, length },
-            HeaderFault::WrongLength {
-                kind: other,
-                length: size,
-            },
-        ) => kind == other && length == size,
-        _ => false,
+/// The kind of a fault, and its numbers.
+fn told(fault: HeaderFault) -> (u8, u64, u64) {
+    match fault {
+        HeaderFault::Ended { at } => (0, at, 0),
+        HeaderFault::NotPrimary => (1, 0, 0),
+        HeaderFault::ShortRecord { at } => (2, at, 0),
+        HeaderFault::Overrun { at } => (3, at, 0),
+        HeaderFault::WrongLength { kind, length } => (4, u64::from(kind), u64::from(length)),
+        HeaderFault::NoMemory => (5, 0, 0),
     }
 }
 
-/// Whether these bytes have no header, and this fault.
-fn fails(alloc: Global, proper: &[u8], wanted: HeaderFault) -> bool {
+/// That these bytes have no header, and this fault.
+fn fails(alloc: Global, proper: &[u8], wanted: HeaderFault) -> Result<(), Fail> {
     match Records::read(alloc, proper) {
-        Ok(_) => false,
-        Err(fault) => is_same(fault, wanted),
+        Err(fault) if told(fault) == told(wanted) => Ok(()),
+        Err(fault) => {
+            Err(Fail::new(format_args!("{proper:?} have {fault:?}, and not {wanted:?}")))
+        }
+        Ok(_) => Err(Fail::new(format_args!("{proper:?} have no fault, and not {wanted:?}"))),
     }
 }
 
@@ -105,9 +103,7 @@ static FAULTY: [Faulty; 7] = [
 #[test]
 fn the_first_fault_is_named(rt: HostRuntime) -> Result<(), Fail> {
     for Faulty(bytes, fault) in &FAULTY {
-        if !fails(rt.alloc(), bytes, *fault) {
-            return Err(Fail::new(format_args!("{bytes:?} have another fault, or none")));
-        }
+        fails(rt.alloc(), bytes, *fault)?;
     }
     Ok(())
 }
@@ -120,8 +116,7 @@ fn a_stamp_of_another_length_is_refused(rt: HostRuntime) -> Result<(), Fail> {
         kind: 5,
         length: 11,
     };
-    assert!(rt; fails(rt.alloc(), &bytes, fault));
-    Ok(())
+    fails(rt.alloc(), &bytes, fault)
 }
 
 /// The stamp of a header of three records.

@@ -5,6 +5,7 @@ use lr_headers::HeaderFault;
 use lr_image::{Image, ImageFault, image_of, pgm_head, pgm_line};
 use lr_rice::RiceFault;
 use std::alloc::Global;
+use std::fmt::Debug;
 use std::test::Fail;
 
 /// A body of a file.
@@ -117,53 +118,70 @@ fn pgm_of(alloc: Global, image: &Image) -> Result<Bytes, NoMemory> {
     Ok(out)
 }
 
-/// A number for each fault, and what the fault says.
-fn told(fault: ImageFault) -> (u8, u64) {
+/// The word of each fault, and its number.
+fn told(fault: ImageFault) -> (&'static str, u64) {
     match fault {
-        ImageFault::Headers(_) => (1, 0),
-        ImageFault::NotImage { kind } => (2, u64::from(kind)),
-        ImageFault::NoStructure => (3, 0),
-        ImageFault::Encrypted => (4, 0),
-        ImageFault::Compression { value } => (5, u64::from(value)),
-        ImageFault::Depth { bits } => (6, u64::from(bits)),
-        ImageFault::Empty => (7, 0),
-        ImageFault::TooLarge { pixels } => (8, pixels),
-        ImageFault::Flags { flags } => (9, u64::from(flags)),
-        ImageFault::BlockSize { block } => (10, u64::from(block)),
-        ImageFault::LinesPerPacket => (11, 0),
-        ImageFault::Rice { piece, .. } => (12, u64::from(piece)),
-        ImageFault::Short { pixels } => (13, pixels),
-        ImageFault::NoMemory => (14, 0),
+        ImageFault::Headers(_) => ("headers", 0),
+        ImageFault::NotImage { kind } => ("not-image", u64::from(kind)),
+        ImageFault::NoStructure => ("no-structure", 0),
+        ImageFault::Encrypted => ("encrypted", 0),
+        ImageFault::Compression { value } => ("compression", u64::from(value)),
+        ImageFault::Depth { bits } => ("depth", u64::from(bits)),
+        ImageFault::Empty => ("empty", 0),
+        ImageFault::TooLarge { pixels } => ("too-large", pixels),
+        ImageFault::Flags { flags } => ("flags", u64::from(flags)),
+        ImageFault::BlockSize { block } => ("block-size", u64::from(block)),
+        ImageFault::LinesPerPacket => ("lines-per-packet", 0),
+        ImageFault::Rice { piece, .. } => ("rice", u64::from(piece)),
+        ImageFault::Short { pixels } => ("short", pixels),
+        ImageFault::NoMemory => ("no memory", 0),
     }
+}
+
+/// What came of a case, and what it wants: the PGM, or the word and number of the fault.
+fn differs<C: Debug + Drop, W: Debug + Drop>(case: usize, came: C, wanted: W) -> Result<(), Fail> {
+    Err(Fail::new(format_args!("case {case} gives {came:?}, and not {wanted:?}")))
 }
 
 fn is_wanted(
     alloc: Global,
+    case: usize,
     outcome: Result<Image, ImageFault>,
     wanted: Wanted,
-) -> Result<bool, NoMemory> {
+) -> Result<(), Fail> {
     match (outcome, wanted) {
         (Ok(image), Wanted::Picture(picture)) => {
-            Ok(*pgm_of(alloc, &image)?.as_slice() == *picture)
+            let text = pgm_of(alloc, &image)?;
+            if *text.as_slice() == *picture {
+                return Ok(());
+            }
+            differs(case, text.as_slice(), picture)
         }
-        (Err(fault), Wanted::Fault(other)) => Ok(told(fault) == told(other)),
-        _ => Ok(false),
-    }
-}
-
-fn holds(alloc: Global, case: &Case) -> Result<bool, NoMemory> {
-    match file_of(alloc, case.0)? {
-        Some(file) => is_wanted(alloc, image_of(alloc, &file), case.1),
-        None => Ok(false),
+        (Err(fault), Wanted::Fault(other)) if told(fault) == told(other) => Ok(()),
+        (Err(fault), Wanted::Fault(other)) => differs(case, told(fault), told(other)),
+        (Ok(_), Wanted::Fault(fault)) => differs(case, "an image", told(fault)),
+        (Err(fault), Wanted::Picture(_)) => differs(case, told(fault), "an image"),
     }
 }
 
 /// That each file has the image or the fault that it must.
 pub(crate) fn hold(alloc: Global, cases: &[Case]) -> Result<(), Fail> {
-    for (place, case) in cases.iter().enumerate() {
-        if !holds(alloc, case)? {
-            return Err(Fail::new(format_args!("case {place} has another image or fault")));
-        }
+    for (place, Case(bodies, wanted)) in cases.iter().enumerate() {
+        let file = file_of(alloc, bodies)?.ok_or("no file")?;
+        is_wanted(alloc, place, image_of(alloc, &file), *wanted)?;
+    }
+    Ok(())
+}
+
+/// The coded image with another byte in its header, and its fault.
+struct Faulty(usize, u8, ImageFault);
+
+/// The same of headers alone.
+fn are_faulty(alloc: Global, cases: &[Faulty]) -> Result<(), Fail> {
+    for Faulty(place, byte, fault) in cases {
+        let bodies = [Body::Coded(*place, *byte), FIRST, SECOND];
+        let file = file_of(alloc, &bodies)?.ok_or("no file")?;
+        is_wanted(alloc, *place, image_of(alloc, &file), Wanted::Fault(*fault))?;
     }
     Ok(())
 }
@@ -174,47 +192,17 @@ static PACKET_BY_PACKET: [Case; 2] = [
     Case(&[KEYED, FIRST, SECOND], LINES_OF_FIVE),
 ];
 
-static HEADER_FAULTS: [Case; 10] = [
-    Case(
-        &[Body::Coded(13, 2), FIRST, SECOND],
-        Wanted::Fault(ImageFault::NotImage { kind: 2 }),
-    ),
-    Case(
-        &[Body::Coded(26, 9), FIRST, SECOND],
-        Wanted::Fault(ImageFault::NoStructure),
-    ),
-    Case(
-        &[Body::Coded(34, 2), FIRST, SECOND],
-        Wanted::Fault(ImageFault::Compression { value: 2 }),
-    ),
-    Case(
-        &[Body::Coded(35, 9), FIRST, SECOND],
-        Wanted::Fault(ImageFault::Compression { value: 1 }),
-    ),
-    Case(
-        &[Body::Coded(29, 4), FIRST, SECOND],
-        Wanted::Fault(ImageFault::Depth { bits: 4 }),
-    ),
-    Case(
-        &[Body::Coded(29, 17), FIRST, SECOND],
-        Wanted::Fault(ImageFault::Depth { bits: 17 }),
-    ),
-    Case(
-        &[Body::Coded(31, 0), FIRST, SECOND],
-        Wanted::Fault(ImageFault::Empty),
-    ),
-    Case(
-        &[Body::Coded(39, 17), FIRST, SECOND],
-        Wanted::Fault(ImageFault::Flags { flags: 17 }),
-    ),
-    Case(
-        &[Body::Coded(40, 7), FIRST, SECOND],
-        Wanted::Fault(ImageFault::BlockSize { block: 7 }),
-    ),
-    Case(
-        &[Body::Coded(41, 0), FIRST, SECOND],
-        Wanted::Fault(ImageFault::LinesPerPacket),
-    ),
+static HEADER_FAULTS: [Faulty; 10] = [
+    Faulty(13, 2, ImageFault::NotImage { kind: 2 }),
+    Faulty(26, 9, ImageFault::NoStructure),
+    Faulty(34, 2, ImageFault::Compression { value: 2 }),
+    Faulty(35, 9, ImageFault::Compression { value: 1 }),
+    Faulty(29, 4, ImageFault::Depth { bits: 4 }),
+    Faulty(29, 17, ImageFault::Depth { bits: 17 }),
+    Faulty(31, 0, ImageFault::Empty),
+    Faulty(39, 17, ImageFault::Flags { flags: 17 }),
+    Faulty(40, 7, ImageFault::BlockSize { block: 7 }),
+    Faulty(41, 0, ImageFault::LinesPerPacket),
 ];
 
 /// Too many pixels, and wrong flags.
@@ -297,7 +285,7 @@ fn coded_lines_are_read_packet_by_packet(rt: HostRuntime) -> Result<(), Fail> {
 
 #[test]
 fn each_fault_of_a_header_is_named(rt: HostRuntime) -> Result<(), Fail> {
-    hold(rt.alloc(), &HEADER_FAULTS)
+    are_faulty(rt.alloc(), &HEADER_FAULTS)
 }
 
 #[test]

@@ -3,7 +3,7 @@
 
 ghost use Rattle.std.specs.Prelude.{◌≡◌, ◌↔◌, ◌<◌, ◌≤◌, ◌^◌, ◌⊎◌, All, IsTrue, length};
 
-use crate::lines::bytes_of;
+use crate::bits::bytes_of;
 use lr_bits::{Bytes, NoMemory};
 use lr_rice_coder::{CodeFault, code_line};
 use std::alloc::Global;
@@ -32,17 +32,19 @@ fn is_line(samples: &[u16], bits: u32) -> bool
     are_small(samples, bits)
 }
 
-/// Whether the line is coded as the bytes of this text, in blocks of 8 samples.
-fn codes(alloc: Global, samples: &[u16], bits: u32, text: &str) -> Result<bool, NoMemory> {
-    if !is_line(samples, bits) {
-        return Ok(false);
-    }
+/// Whether the line is coded as the bytes of this text, in blocks of 8 samples. Where it isn't, the failure has both.
+fn codes(alloc: Global, samples: &[u16], bits: u32, text: &str) -> Result<bool, Fail> {
     let mut out = Bytes::new(alloc);
-    if code_line(alloc, samples, bits, 8, &mut out).is_err() {
-        return Ok(false);
+    if !is_line(samples, bits) {
+        return Err(Fail::from("no line"));
     }
+    code_line(alloc, samples, bits, 8, &mut out)?;
     let wanted = bytes_of(alloc, text)?;
-    Ok(*out.as_slice() == *wanted.as_slice())
+    let (came, wanted) = (out.as_slice(), wanted.as_slice());
+    if *came == *wanted {
+        return Ok(true);
+    }
+    Err(Fail::new(format_args!("{samples:?} of {bits} bits are {came:?}, and not {wanted:?}")))
 }
 
 /// Whether the line takes too many bytes, and leaves what stood there.
@@ -71,11 +73,7 @@ struct Case(&'static [u16], u32, &'static str);
 /// That the samples of each case are coded so.
 fn are_coded(alloc: Global, cases: &[Case]) -> Result<(), Fail> {
     for Case(samples, bits, text) in cases {
-        if !codes(alloc, samples, *bits, text)? {
-            return Err(Fail::new(format_args!(
-                "{samples:?} of {bits} bits aren't coded as {text:?}"
-            )));
-        }
+        codes(alloc, samples, *bits, text)?;
     }
     Ok(())
 }

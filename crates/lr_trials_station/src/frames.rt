@@ -1,171 +1,93 @@
 //! `frames` prints a line for each transfer frame.
-use crate::call::{NEVER, Room};
-use crate::sessions::{OVER, Piece, QUIET, Run, Session, hold};
-use lr_trials_wanted::lines;
+use crate::steps::{Piece, Step, hold, hold_in};
+use lr_trials_support::{DONE, OUTPUT_FAILED, SOURCE_FAILED, USAGE};
 use std::test::Fail;
 
 /// No call on the disk would succeed.
-const NO_DISK: Session = Session { allowed: 0, ..OVER };
+const NO_DISK: Step = Step::Allows(0);
 
-const FRAMES: Run = Run {
-    words: &["frames"],
-    ..QUIET
-};
+/// A frame of zeros is there.
+const READS_ZEROS: Step = Step::Reads(&[Piece::Same(892, 0)]);
 
-static CUT: [Session; 1] = [Session {
-    reads: &[1, 892, 893],
-    runs: &[
-        Run {
-            input: &[Piece::Same(893, 0x40)],
-            out: lines!(
-                frame 0 vc 0 counter 4210752 spacecraft 1 replay 0 pointer 64;
-                frames 1 left 1 stop end;
-            ),
-            ..FRAMES
-        },
-        Run {
-            input: &[Piece::Same(892, 0)],
-            out: lines!(
-                frame 0 version 0 refused;
-                frames 1 left 0 stop end;
-            ),
-            ..FRAMES
-        },
-        Run {
-            input: &[Piece::Same(892, 0x7F)],
-            out: lines!(
-                frame 0 vc 63 counter 8355711 spacecraft 253 replay 0 pointer 1919;
-                frames 1 left 0 stop end;
-            ),
-            ..FRAMES
-        },
-        Run {
-            out: lines!(frames 0 left 0 stop end;),
-            ..FRAMES
-        },
-    ],
-    ..NO_DISK
-}];
+static CUT: [&[Step]; 1] = [&[
+    NO_DISK,
+    Step::Reads(&[Piece::Same(893, 0x40)]),
+    Step::Call(
+        "frames",
+        "frame 0 vc 0 counter 4210752 spacecraft 1 replay 0 pointer 64\n\
+         frames 1 left 1 stop end\n",
+        DONE,
+    ),
+    READS_ZEROS,
+    Step::Call(
+        "frames",
+        "frame 0 version 0 refused\n\
+         frames 1 left 0 stop end\n",
+        DONE,
+    ),
+    Step::Reads(&[Piece::Same(892, 0x7F)]),
+    Step::Call(
+        "frames",
+        "frame 0 vc 63 counter 8355711 spacecraft 253 replay 0 pointer 1919\n\
+         frames 1 left 0 stop end\n",
+        DONE,
+    ),
+    Step::Reads(&[]),
+    Step::Call("frames", "frames 0 left 0 stop end\n", DONE),
+]];
 
-static SOURCE_FAILS: [Session; 1] = [Session {
-    reads: &[893],
-    runs: &[Run {
-        input: &[Piece::Same(893, 0x40)],
-        fault: 400,
-        out: lines!(frames 0 left 400 stop fault;),
-        status: 3,
-        line: lines!(station: source failed;),
-        ..FRAMES
-    }],
-    ..NO_DISK
-}];
+static SOURCE_FAILS: [&[Step]; 1] = [&[
+    NO_DISK,
+    Step::Reads(&[Piece::Same(893, 0x40)]),
+    Step::SourceFails(400),
+    Step::Call("frames", "frames 0 left 400 stop fault\n", SOURCE_FAILED),
+]];
 
 /// The output fails in one frame of zeros.
-const OUTPUT_FAILS: Run = Run {
-    input: &[Piece::Same(892, 0)],
-    status: 5,
-    line: lines!(station: output failed;),
-    ..FRAMES
-};
-
-static FRONTS: [Session; 1] = [Session {
-    runs: &[
-        Run {
-            room: Room {
-                bytes: 500,
-                fault: 8,
-            },
-            out: lines!(frame 0 ..),
-            ..OUTPUT_FAILS
-        },
-        Run {
-            room: Room {
-                bytes: 33,
-                fault: NEVER,
-            },
-            out: lines!(
-                frame 0 version 0 refused;
-                frames ..
-            ),
-            ..OUTPUT_FAILS
-        },
-    ],
-    ..NO_DISK
-}];
+static FRONTS: [&[Step]; 1] = [&[
+    NO_DISK,
+    READS_ZEROS,
+    Step::OutFails(8),
+    Step::Call("frames", "frame 0 ", OUTPUT_FAILED),
+    Step::OutHas(33),
+    Step::Call(
+        "frames",
+        "frame 0 version 0 refused\nframes ",
+        OUTPUT_FAILED,
+    ),
+]];
 
 /// A frame is there, and the words are refused.
-const USAGE: Run = Run {
-    input: &[Piece::Same(892, 0)],
-    status: 2,
-    line: lines!(station: usage: SHELF COMMAND [WORDS];),
-    ..QUIET
-};
+static WORDS: [&[Step]; 1] = [&[
+    NO_DISK,
+    READS_ZEROS,
+    Step::Call("", "", USAGE),
+    Step::Call("frame", "", USAGE),
+    Step::Call("frames frames", "", USAGE),
+    Step::Call("decode --input frames", "", USAGE),
+    Step::Call("receive frames --input", "", USAGE),
+]];
 
-static WORDS: [Session; 1] = [Session {
-    runs: &[
-        USAGE,
-        Run {
-            words: &["frame"],
-            ..USAGE
-        },
-        Run {
-            words: &["frames", "frames"],
-            ..USAGE
-        },
-        Run {
-            words: &["decode", "--input", "frames"],
-            ..USAGE
-        },
-        Run {
-            words: &["receive", "frames", "--input"],
-            ..USAGE
-        },
-    ],
-    ..NO_DISK
-}];
-
-static NUMBERS: [Session; 1] = [Session {
-    runs: &[
-        Run {
-            words: &["init"],
-            ..USAGE
-        },
-        Run {
-            words: &["init", ""],
-            ..USAGE
-        },
-        Run {
-            words: &["init", "+100"],
-            ..USAGE
-        },
-        Run {
-            words: &["init", "19"],
-            ..USAGE
-        },
-        Run {
-            words: &["init", "1099511627777"],
-            ..USAGE
-        },
-        Run {
-            words: &["init", "000000000000000000100"],
-            ..USAGE
-        },
-        Run {
-            words: &["extract", "18446744073709551616"],
-            ..USAGE
-        },
-    ],
-    ..NO_DISK
-}];
+static NUMBERS: [&[Step]; 1] = [&[
+    NO_DISK,
+    READS_ZEROS,
+    Step::Call("init", "", USAGE),
+    Step::Call("init ", "", USAGE),
+    Step::Call("init +100", "", USAGE),
+    Step::Call("init 19", "", USAGE),
+    Step::Call("init 1099511627777", "", USAGE),
+    Step::Call("init 000000000000000000100", "", USAGE),
+    Step::Call("extract 18446744073709551616", "", USAGE),
+]];
 
 #[test]
 fn each_frame_has_its_line_however_the_reads_are_cut(rt: HostRuntime) -> Result<(), Fail> {
-    hold(rt.alloc(), &CUT)
+    hold_in(rt.alloc(), &[1, 892, 893], &CUT)
 }
 
 #[test]
 fn a_source_that_fails_ends_the_input(rt: HostRuntime) -> Result<(), Fail> {
-    hold(rt.alloc(), &SOURCE_FAILS)
+    hold_in(rt.alloc(), &[893], &SOURCE_FAILS)
 }
 
 #[test]

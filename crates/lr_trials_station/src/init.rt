@@ -1,8 +1,6 @@
 //! `init` makes an empty shelf once.
-use crate::call::Room;
-use crate::sessions::{Left, OVER, QUIET, Run, Session, hold};
-use crate::shelves::TWO_FILES;
-use lr_trials_wanted::lines;
+use crate::steps::{Step, hold};
+use lr_trials_support::{DONE, End, ITEM_7, ITEM_8, OUTPUT_FAILED};
 use std::test::Fail;
 
 /// The header of the capacity 100, with a closed gate.
@@ -11,93 +9,69 @@ const HEADER_100: &[u8] = b"\x5ALRSHELF\x02\x00\x00\x00\x00\x00\x00\x00\x64\xE0\
 /// What a stopped `init` may have left of it.
 const FRONT_100: &[u8] = b"\x5ALRSHELF\x02\x00\x00\x00\x00\x00\x00\x00\x64\xE0\x53";
 
-/// The shelf is made.
-const MADE: Run = Run {
-    words: &["init", "100"],
-    out: lines!(shelf capacity 100;),
-    left: Left::Bytes(HEADER_100),
-    ..QUIET
-};
+/// The shelf is made, and a second call finds it and leaves it as it is.
+const MADE: Step = Step::Call("init 100", "shelf capacity 100\n", DONE);
 
-/// It's there, and stays as it is.
-const REFUSED: Run = Run {
-    words: &["init", "100"],
-    status: 11,
-    line: lines!(station: not empty, length 20;),
-    left: Left::Bytes(HEADER_100),
-    ..QUIET
-};
+const REFUSED: Step = Step::Call("init 100", "", End(11, "station: not empty, length 20\n"));
 
-static MADE_ONCE: [Session; 4] = [
-    Session {
-        runs: &[MADE, REFUSED],
-        ..OVER
-    },
-    Session {
-        runs: &[
-            Run {
-                words: &["init", "00000000000000000100"],
-                ..MADE
-            },
-            Run {
-                words: &["init", "00000000000000000100"],
-                ..REFUSED
-            },
-        ],
-        ..OVER
-    },
-    Session {
-        disk: &[0xFF; 20],
-        runs: &[MADE, REFUSED],
-        ..OVER
-    },
-    Session {
-        disk: FRONT_100,
-        runs: &[MADE, REFUSED],
-        ..OVER
-    },
+static MADE_ONCE: [&[Step]; 4] = [
+    &[
+        MADE,
+        Step::HasBytes(HEADER_100),
+        REFUSED,
+        Step::HasBytes(HEADER_100),
+    ],
+    &[
+        Step::Call("init 00000000000000000100", "shelf capacity 100\n", DONE),
+        Step::HasBytes(HEADER_100),
+        Step::Call(
+            "init 00000000000000000100",
+            "",
+            End(11, "station: not empty, length 20\n"),
+        ),
+        Step::HasBytes(HEADER_100),
+    ],
+    &[
+        Step::Disk(&[0xFF; 20]),
+        MADE,
+        Step::HasBytes(HEADER_100),
+        REFUSED,
+        Step::HasBytes(HEADER_100),
+    ],
+    &[
+        Step::Disk(FRONT_100),
+        MADE,
+        Step::HasBytes(HEADER_100),
+        REFUSED,
+        Step::HasBytes(HEADER_100),
+    ],
 ];
 
 /// Two files are there.
-const NOT_EMPTY: Run = Run {
-    words: &["init", "100"],
-    status: 11,
-    line: lines!(station: not empty, length 154;),
-    left: Left::Same,
-    ..QUIET
-};
+const NOT_EMPTY: Step = Step::Call("init 100", "", End(11, "station: not empty, length 154\n"));
 
 /// The second gate has these bytes.
-static OTHERS: [Session; 2] = [
-    Session {
-        disk: &TWO_FILES,
-        byte: Some((86, 1)),
-        runs: &[NOT_EMPTY],
-        ..OVER
-    },
-    Session {
-        disk: &TWO_FILES,
-        byte: Some((86, 0x7F)),
-        runs: &[NOT_EMPTY],
-        ..OVER
-    },
+static OTHERS: [&[Step]; 2] = [
+    &[
+        Step::Shelf(&[ITEM_7, ITEM_8]),
+        Step::Byte(86, 1),
+        NOT_EMPTY,
+        Step::HasTheSame,
+    ],
+    &[
+        Step::Shelf(&[ITEM_7, ITEM_8]),
+        Step::Byte(86, 0x7F),
+        NOT_EMPTY,
+        Step::HasTheSame,
+    ],
 ];
 
 /// The output takes nothing, and the shelf is made all the same.
-static OUTPUT_FAILS: [Session; 1] = [Session {
-    runs: &[Run {
-        words: &["init", "100"],
-        room: Room {
-            bytes: 500,
-            fault: 0,
-        },
-        status: 5,
-        line: lines!(station: output failed;),
-        left: Left::Bytes(HEADER_100),
-        ..QUIET
-    }],
-    ..OVER
-}];
+static OUTPUT_FAILS: [&[Step]; 1] = [&[
+    Step::OutFails(0),
+    Step::Call("init 100", "", OUTPUT_FAILED),
+    Step::HasBytes(HEADER_100),
+]];
 
 #[test]
 fn an_empty_shelf_is_made_once(rt: HostRuntime) -> Result<(), Fail> {

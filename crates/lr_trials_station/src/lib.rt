@@ -1,6 +1,5 @@
 //! Trials of the station: calls of `station` over sources, disks and sinks in memory, and over real files; and what a
-//! contract says of a run over one source (`cut`). `call`, `sessions`, `shelves`, `short` and `stated` are what other
-//! crates of trials share.
+//! contract says of a run over one source (`cut`). `call` and `steps` are what other crates of trials share.
 #![tactic(auto)]
 
 #[cfg(test)]
@@ -25,10 +24,7 @@ mod packets;
 mod receive;
 #[cfg(test)]
 mod repacks;
-pub mod sessions;
-pub mod shelves;
-pub mod short;
-pub mod stated;
+pub mod steps;
 #[cfg(test)]
 mod streams;
 #[cfg(test)]

@@ -1,92 +1,49 @@
 //! `list` and `show` of a shelf that is there.
-use crate::sessions::{BAD, GONE, OVER, QUIET, Run, SECOND_DISCARDED, Session, hold};
-use crate::shelves::{MADE, RECEIVED_7, TWO_FILES};
-use lr_trials_wanted::lines;
+use crate::steps::{MADE, READS_7, RECEIVES_7, Step, hold};
+use lr_trials_support::{BAD_CHECKSUM, DONE, End, GONE, ITEM_7, ITEM_8};
 use std::test::Fail;
 
-const FILE_7: &str = lines!(
-    file 0 vc 0 apid 100 counter 7 bytes 26 packets 1 declared 136 real 128 differs type 2 frames 0 0 corrected 0;
+const FILE_7: &str = "\
+    file 0 vc 0 apid 100 counter 7 bytes 26 packets 1 declared 136 real 128 differs type 2 frames 0 0 corrected 0\n";
+
+const SHELF_OF_ONE: &str = "\
+    file 0 vc 0 apid 100 counter 7 bytes 26 packets 1 declared 136 real 128 differs type 2 frames 0 0 corrected 0\n\
+    files 1 used 87 capacity 1000\n";
+
+const SHOWN: Step = Step::Call(
+    "show 0",
+    "file 0 vc 0 apid 100 counter 7 bytes 26 packets 1 declared 136 real 128 differs type 2 frames 0 0 corrected 0\n\
+     record 0 length 16 primary type 2 header 16 bits 0\n",
+    DONE,
 );
 
-const SHELF_OF_ONE: &str = lines!(
-    file 0 vc 0 apid 100 counter 7 bytes 26 packets 1 declared 136 real 128 differs type 2 frames 0 0 corrected 0;
-    files 1 used 87 capacity 1000;
-);
+static EMPTY: [&[Step]; 1] = [&[
+    Step::Call("init 100", "shelf capacity 100\n", DONE),
+    Step::Call("list", "files 0 used 20 capacity 100\n", DONE),
+    Step::Call("show 0", "", End(7, "station: no such file, count 0\n")),
+]];
 
-const SHOWN: Run = Run {
-    words: &["show", "0"],
-    out: lines!(
-        file 0 vc 0 apid 100 counter 7 bytes 26 packets 1 declared 136 real 128 differs type 2 frames 0 0 corrected 0;
-        record 0 length 16 primary type 2 header 16 bits 0;
-    ),
-    ..QUIET
-};
+static RECEIVED: [&[Step]; 1] = [&[
+    MADE,
+    READS_7,
+    RECEIVES_7,
+    Step::Call("list", SHELF_OF_ONE, DONE),
+    SHOWN,
+]];
 
-static EMPTY: [Session; 1] = [Session {
-    runs: &[
-        Run {
-            words: &["init", "100"],
-            out: lines!(shelf capacity 100;),
-            ..QUIET
-        },
-        Run {
-            words: &["list"],
-            out: lines!(files 0 used 20 capacity 100;),
-            ..QUIET
-        },
-        Run {
-            words: &["show", "0"],
-            status: 7,
-            line: lines!(station: no such file, count 0;),
-            ..QUIET
-        },
-    ],
-    ..OVER
-}];
+static WRONG_CHECKSUM: [&[Step]; 1] = [&[
+    Step::Shelf(&[ITEM_7, ITEM_8]),
+    Step::Byte(135, 0xA5),
+    Step::Call("list", FILE_7, BAD_CHECKSUM),
+    SHOWN,
+    Step::Call("show 1", "", BAD_CHECKSUM),
+]];
 
-static RECEIVED: [Session; 1] = [Session {
-    runs: &[
-        MADE,
-        RECEIVED_7,
-        Run {
-            words: &["list"],
-            out: SHELF_OF_ONE,
-            ..QUIET
-        },
-        SHOWN,
-    ],
-    ..OVER
-}];
-
-static WRONG_CHECKSUM: [Session; 1] = [Session {
-    disk: &TWO_FILES,
-    byte: Some((135, 0xA5)),
-    runs: &[
-        Run {
-            words: &["list"],
-            out: FILE_7,
-            ..BAD
-        },
-        SHOWN,
-        Run {
-            words: &["show", "1"],
-            ..BAD
-        },
-    ],
-    ..OVER
-}];
-
-static DISCARDED: [Session; 1] = [Session {
-    disk: &TWO_FILES,
-    runs: &[
-        SECOND_DISCARDED,
-        Run {
-            words: &["show", "1"],
-            ..GONE
-        },
-    ],
-    ..OVER
-}];
+static DISCARDED: [&[Step]; 1] = [&[
+    Step::Shelf(&[ITEM_7, ITEM_8]),
+    Step::Call("discard 1", "discarded 1\n", DONE),
+    Step::Call("show 1", "", GONE),
+]];
 
 #[test]
 fn an_empty_shelf_has_a_last_line_alone(rt: HostRuntime) -> Result<(), Fail> {

@@ -1,6 +1,6 @@
 //! `packets` prints a line for each packet.
-use crate::sessions::{OVER, Piece, QUIET, Run, Session, hold};
-use lr_trials_wanted::lines;
+use crate::steps::{Piece, Step, hold, hold_in};
+use lr_trials_support::DONE;
 use std::test::Fail;
 
 /// A packet of application 100 whose body is `123456789`, and an idle one after it.
@@ -32,86 +32,59 @@ const IDLE_ALONE: &[u8] = b"\x40\x40\x00\x00\x00\x00\x07\xFE\
 \x00\x00\x0A123456789\x29\xB1\x07\xFF\xC0\x00\x03\x5F";
 
 /// No call on the disk would succeed.
-const NO_DISK: Session = Session { allowed: 0, ..OVER };
+const NO_DISK: Step = Step::Allows(0);
 
-const PACKETS: Run = Run {
-    words: &["packets"],
-    ..QUIET
-};
+static CUT: [&[Step]; 1] = [&[
+    NO_DISK,
+    Step::Reads(&[Piece::Frame(ONE)]),
+    Step::Call(
+        "packets",
+        "packet 0 vc 0 apid 100 flags 3 count 0 length 11 ok\n\
+         packet 1 vc 0 apid 2047 flags 3 count 0 length 861 fault idle\n\
+         frames 1 packets 2 good 1 left 0 stop end\n",
+        DONE,
+    ),
+    Step::Reads(&[IDLE, ZEROS, FRONT, Piece::Frame(SECOND)]),
+    Step::Call(
+        "packets",
+        "packet 0 vc 0 apid 2047 flags 3 count 0 length 875 fault idle\n\
+         packet 1 vc 0 apid 100 flags 3 count 0 length 11 ok\n\
+         packet 2 vc 0 apid 2047 flags 3 count 0 length 864 fault idle\n\
+         frames 2 packets 3 good 1 left 0 stop end\n",
+        DONE,
+    ),
+    Step::Reads(&[Piece::Frame(WRONG)]),
+    Step::Call(
+        "packets",
+        "packet 0 vc 0 apid 100 flags 3 count 0 length 11 fault crc stored 29B0 computed 29B1\n\
+         packet 1 vc 0 apid 2047 flags 3 count 0 length 861 fault idle\n\
+         frames 1 packets 2 good 0 left 0 stop end\n",
+        DONE,
+    ),
+]];
 
-static CUT: [Session; 2] = [
-    Session {
-        reads: &[1, 892, 893],
-        runs: &[
-            Run {
-                input: &[Piece::Frame(ONE)],
-                out: lines!(
-                    packet 0 vc 0 apid 100 flags 3 count 0 length 11 ok;
-                    packet 1 vc 0 apid 2047 flags 3 count 0 length 861 fault idle;
-                    frames 1 packets 2 good 1 left 0 stop end;
-                ),
-                ..PACKETS
-            },
-            Run {
-                input: &[IDLE, ZEROS, FRONT, Piece::Frame(SECOND)],
-                out: lines!(
-                    packet 0 vc 0 apid 2047 flags 3 count 0 length 875 fault idle;
-                    packet 1 vc 0 apid 100 flags 3 count 0 length 11 ok;
-                    packet 2 vc 0 apid 2047 flags 3 count 0 length 864 fault idle;
-                    frames 2 packets 3 good 1 left 0 stop end;
-                ),
-                ..PACKETS
-            },
-        ],
-        ..NO_DISK
-    },
-    Session {
-        runs: &[Run {
-            input: &[Piece::Frame(WRONG)],
-            out: lines!(
-                packet 0 vc 0 apid 100 flags 3 count 0 length 11 fault crc stored "29B0" computed "29B1";
-                packet 1 vc 0 apid 2047 flags 3 count 0 length 861 fault idle;
-                frames 1 packets 2 good 0 left 0 stop end;
-            ),
-            ..PACKETS
-        }],
-        ..NO_DISK
-    },
-];
+const BROKEN: &str = "packet 0 vc 0 apid 2047 flags 3 count 0 length 875 fault idle\n\
+                      packet 1 vc 0 apid 2047 flags 3 count 0 length 864 fault idle\n\
+                      frames 2 packets 2 good 0 left 0 stop end\n";
 
-const BROKEN: &str = lines!(
-    packet 0 vc 0 apid 2047 flags 3 count 0 length 875 fault idle;
-    packet 1 vc 0 apid 2047 flags 3 count 0 length 864 fault idle;
-    frames 2 packets 2 good 0 left 0 stop end;
-);
-
-static DROPPED: [Session; 1] = [Session {
-    runs: &[
-        Run {
-            input: &[IDLE, ZEROS, FRONT, Piece::Frame(AFTER_A_GAP)],
-            out: BROKEN,
-            ..PACKETS
-        },
-        Run {
-            input: &[IDLE, ZEROS, FRONT, Piece::Frame(REPEATED)],
-            out: BROKEN,
-            ..PACKETS
-        },
-        Run {
-            input: &[IDLE, ZEROS, FRONT, Piece::Frame(IDLE_ALONE)],
-            out: lines!(
-                packet 0 vc 0 apid 2047 flags 3 count 0 length 875 fault idle;
-                frames 2 packets 1 good 0 left 0 stop end;
-            ),
-            ..PACKETS
-        },
-    ],
-    ..NO_DISK
-}];
+static DROPPED: [&[Step]; 1] = [&[
+    NO_DISK,
+    Step::Reads(&[IDLE, ZEROS, FRONT, Piece::Frame(AFTER_A_GAP)]),
+    Step::Call("packets", BROKEN, DONE),
+    Step::Reads(&[IDLE, ZEROS, FRONT, Piece::Frame(REPEATED)]),
+    Step::Call("packets", BROKEN, DONE),
+    Step::Reads(&[IDLE, ZEROS, FRONT, Piece::Frame(IDLE_ALONE)]),
+    Step::Call(
+        "packets",
+        "packet 0 vc 0 apid 2047 flags 3 count 0 length 875 fault idle\n\
+         frames 2 packets 1 good 0 left 0 stop end\n",
+        DONE,
+    ),
+]];
 
 #[test]
 fn each_packet_has_its_line_however_the_reads_are_cut(rt: HostRuntime) -> Result<(), Fail> {
-    hold(rt.alloc(), &CUT)
+    hold_in(rt.alloc(), &[1, 892, 893], &CUT)
 }
 
 #[test]

@@ -1,7 +1,7 @@
 //! Which words are read, and as which command.
 use lr_conv::LineCode;
 use lr_forms::{Input, Output, UnitForm};
-use lr_trials_wanted::words_of;
+use lr_trials_support::words_of;
 use lr_words::{
     Command, FileAction, FrameLines, IntakeAction, ShelfAction, read_words, writes_shelf,
 };

@@ -2,6 +2,10 @@
 #![tactic(auto)]
 
 #[cfg(test)]
+mod assembled;
+#[cfg(test)]
+mod bodies;
+#[cfg(test)]
 mod images;
 #[cfg(test)]
 mod made;

@@ -1,26 +1,20 @@
 //! A recording: what becomes of the same symbols in other reads, levels and line codes, and of the shelf that it fills.
-
-use crate::made::{LINES, after_silence, reading, shelf};
+use crate::made::{after_silence, shelf};
+use lr_bits::FRAME_SYMBOLS;
 use lr_disk::MemDisk;
-use lr_trials_station::call::{AMPLE, NEVER, Room, printed_on, written_bytes, written_on};
-use lr_trials_station::shelves::empty_shelf;
-use lr_trials_wanted::lines;
+use lr_trials_station::call::{called, printed_on, written, written_on};
+use lr_trials_station::steps::HEADER_1000;
+use lr_trials_support::{DONE, FIRST_SHELVED, disk, faultless, is_number, is_text, shelf_bytes};
 use std::alloc::Global;
 use std::test::Fail;
 
-const FRAME: usize = 16_384;
-
-const FIRST: &str = lines!(shelved 0 vc 5 apid 200 counter 0 bytes 237 packets 1;);
-
-const TURNED: &str = lines!(
-    window 0 at 0 polarity - restored 0 0 0 0;
-    symbols 16384 frames 1 restored 1 lost 0 left 0 stop end;
-);
+const TURNED: &str = "window 0 at 0 polarity - restored 0 0 0 0\n\
+                      symbols 16384 frames 1 restored 1 lost 0 left 0 stop end\n";
 
 /// What `decode` with these words prints of these bytes.
-fn decoded_text(alloc: Global, words: &[&str], bytes: Vec<u8>) -> Result<Vec<u8>, Fail> {
-    let mut disk = MemDisk::of(alloc, Vec::new(alloc), 0, 0)?;
-    printed_on(alloc, &mut disk, reading(words, bytes, 4_096), AMPLE)
+fn decoded_text(alloc: Global, words: &str, bytes: &[u8]) -> Result<Vec<u8>, Fail> {
+    let mut none = disk(alloc, &[], 0)?;
+    printed_on(alloc, &mut none, &faultless(words, bytes, 4_096))
 }
 
 /// The symbols with the opposite sign, every one or every second one.
@@ -47,43 +41,30 @@ fn loud(alloc: Global, bytes: &[u8]) -> Result<Vec<u8>, Fail> {
 #[test]
 fn signs_and_levels_are_made_up_for(rt: HostRuntime) -> Result<(), Fail> {
     let alloc = rt.alloc();
-    let bytes = written_bytes(alloc, &["make", "1", "1", "0"], FRAME)?;
-    let turned = negated_bytes(alloc, &bytes, true)?;
-    assert_eq!(rt;
-        decoded_text(alloc, &["decode"], turned)?.as_slice(),
-        TURNED.as_bytes()
-    );
-    let louder = decoded_text(alloc, &["decode"], loud(alloc, &bytes)?)?;
-    let plain = decoded_text(alloc, &["decode"], bytes)?;
-    assert!(rt; louder.as_slice() == plain.as_slice());
+    let bytes = written(alloc, "make 1 1 0", FRAME_SYMBOLS)?;
+    let turned = decoded_text(alloc, "decode", &negated_bytes(alloc, &bytes, true)?)?;
+    assert!(rt; is_text("turned", &turned, TURNED.as_bytes())?);
+    let louder = decoded_text(alloc, "decode", &loud(alloc, &bytes)?)?;
+    assert!(rt; is_text("loud", &louder, &decoded_text(alloc, "decode", &bytes)?)?);
     Ok(())
 }
 
 #[test]
 fn second_symbols_may_come_uncomplemented(rt: HostRuntime) -> Result<(), Fail> {
     let alloc = rt.alloc();
-    let bytes = written_bytes(alloc, &["make", "1", "8", "0"], 8 * FRAME)?;
-    let plain = decoded_text(
-        alloc,
-        &["decode", "--g2", "plain"],
-        negated_bytes(alloc, &bytes, false)?,
-    )?;
-    let usual = decoded_text(alloc, &["decode"], bytes)?;
-    assert!(rt; usual.len() > 300 && plain.as_slice() == usual.as_slice());
+    let bytes = written(alloc, "make 1 8 0", 8 * FRAME_SYMBOLS)?;
+    let other = negated_bytes(alloc, &bytes, false)?;
+    let plain = decoded_text(alloc, "decode --g2 plain", &other)?;
+    let usual = decoded_text(alloc, "decode", &bytes)?;
+    assert!(rt; usual.len() > 300 && is_text("plain", &plain, &usual)?);
     Ok(())
 }
 
 /// What `receive` prints of the recording in reads of this size, and the disk that it leaves.
 fn received_text(alloc: Global, bytes: &[u8], reads: usize) -> Result<(Vec<u8>, MemDisk), Fail> {
     let mut disk = shelf(alloc)?;
-    let input = reading(&["receive"], bytes.to_vec(alloc)?, reads);
-    let text = printed_on(alloc, &mut disk, input, LINES)?;
+    let text = printed_on(alloc, &mut disk, &faultless("receive", bytes, reads))?;
     Ok((text, disk))
-}
-
-/// How many lines a text has.
-fn lines(text: &[u8]) -> usize {
-    text.iter().filter(|byte| **byte == b'\n').count()
 }
 
 #[test]
@@ -91,11 +72,16 @@ fn output_and_disk_are_the_same_in_any_reads(rt: HostRuntime) -> Result<(), Fail
     let alloc = rt.alloc();
     let bytes = after_silence(alloc)?;
     let (text, disk) = received_text(alloc, &bytes, 4_096)?;
-    assert!(rt; text.as_slice().starts_with(FIRST.as_bytes()));
+    assert!(rt; text.as_slice().starts_with(FIRST_SHELVED.as_bytes()));
     for reads in [1, 65_536] {
         let (other, other_disk) = received_text(alloc, &bytes, reads)?;
-        assert!(rt; other.as_slice() == text.as_slice());
-        assert!(rt; other_disk.as_slice() == disk.as_slice());
+        is_text(format_args!("out in reads of {reads}"), &other, &text)?;
+        let left = other_disk.as_slice();
+        is_text(
+            format_args!("the disk in reads of {reads}"),
+            left,
+            disk.as_slice(),
+        )?;
     }
     Ok(())
 }
@@ -103,33 +89,27 @@ fn output_and_disk_are_the_same_in_any_reads(rt: HostRuntime) -> Result<(), Fail
 #[test]
 fn the_files_of_a_recording_are_there(rt: HostRuntime) -> Result<(), Fail> {
     let alloc = rt.alloc();
-    let bytes = after_silence(alloc)?;
-    let (_, mut disk) = received_text(alloc, &bytes, 65_536)?;
-    assert!(rt; written_on(alloc, &mut disk, &["extract", "7"], 5_000)?.len() == 4_121);
-    let verified = written_on(alloc, &mut disk, &["verify"], 5_000)?;
-    assert!(rt; lines(&verified) == 63);
+    let (_, mut disk) = received_text(alloc, &after_silence(alloc)?, 65_536)?;
+    let file = written_on(alloc, &mut disk, "extract 7", 5_000)?;
+    assert!(rt; is_number("the length of file 7", file.len() as u64, 4_121)?);
+    let verified = called(alloc, &mut disk, &faultless("verify", &[], 1))?;
+    assert!(rt; verified.has_status("verify", 0)?);
+    assert!(rt; is_number("the lines of verify", verified.lines() as u64, 63)?);
     Ok(())
-}
-
-/// Whether an empty source in this form leaves the shelf's bytes alone.
-fn leaves_alone(alloc: Global, form: &str) -> Result<bool, Fail> {
-    let mut disk = empty_shelf(alloc)?;
-    let before = disk.as_slice().to_vec(alloc)?;
-    let room = Room {
-        bytes: 200,
-        fault: NEVER,
-    };
-    let words = ["receive", "--input", form];
-    let input = reading(&words, Vec::new(alloc), 1);
-    printed_on(alloc, &mut disk, input, room)?;
-    Ok(disk.as_slice() == before.as_slice())
 }
 
 #[test]
 fn an_empty_source_leaves_the_shelf_alone(rt: HostRuntime) -> Result<(), Fail> {
     let alloc = rt.alloc();
-    assert!(rt; leaves_alone(alloc, "symbols")?);
-    assert!(rt; leaves_alone(alloc, "blocks")?);
-    assert!(rt; leaves_alone(alloc, "frames")?);
+    let before = shelf_bytes(alloc, HEADER_1000, &[])?;
+    for words in [
+        "receive --input symbols",
+        "receive --input blocks",
+        "receive --input frames",
+    ] {
+        let mut left = disk(alloc, &before, 1_000)?;
+        printed_on(alloc, &mut left, &faultless(words, &[], 1))?;
+        is_text(words, left.as_slice(), &before)?;
+    }
     Ok(())
 }

@@ -1,8 +1,9 @@
 //! Several recordings in a bundle come onto one shelf, with a thread for each.
-use crate::calls::{
-    Given, Printed, call, call_alone, disk_of_calls, empty_shelf, faultless, symbols,
+use crate::calls::{call, empty_shelf, symbols};
+use lr_trials_station::call::called;
+use lr_trials_support::{
+    Call, DONE, End, SOURCE_FAILED, USAGE, disk, faultless, is_number, is_text,
 };
-use lr_trials_wanted::{is_status, is_text, lines, receipt_number};
 use std::alloc::Global;
 use std::sync::Wait;
 use std::test::Fail;
@@ -22,24 +23,29 @@ fn bundle_of(alloc: Global, recordings: &[Vec<u8>]) -> Result<Vec<u8>, Fail> {
 
 /// A bundle of the first frames, this many of each, of two test streams.
 fn two_streams(alloc: Global, first: &str, second: &str, frames: usize) -> Result<Vec<u8>, Fail> {
-    let one = symbols(alloc, first, 0, frames)?;
-    let other = symbols(alloc, second, 0, frames)?;
+    let one = symbols(alloc, first, frames)?;
+    let other = symbols(alloc, second, frames)?;
     bundle_of(alloc, &vec![in alloc; one, other]?)
 }
 
-// Whether the call printed this. Where it didn't, the failure says what differs.
-fn ends_with(printed: &Printed, status: u8, out: &str, line: &str) -> Result<bool, Fail> {
+/// The number in this line, where it is that of the receipt for this place of this downlink.
+fn receipt_number(
+    alloc: Global,
+    line: &str,
+    downlink: usize,
+    place: usize,
+) -> Result<Option<u64>, Fail> {
+    let words = format!(in alloc; "receipt {downlink} {place} number ")?;
     Ok(
-        is_status(printed.status, status)?
-            && is_text("out", printed.out.as_slice(), out.as_bytes())?
-            && is_text("err", printed.err.as_slice(), line.as_bytes())?,
+        line.strip_prefix(words.as_str())
+            .and_then(|number| number.parse::<u64>().ok()),
     )
 }
 
-// The numbers of receipts, which stand in the order of downlinks and places, seven of each.
-fn numbers_in(alloc: Global, text: &str) -> Result<Vec<u64>, Fail> {
+/// The numbers of receipts, which stand in the order of downlinks and places, seven of each.
+fn numbers_in(alloc: Global, text: &[u8]) -> Result<Vec<u64>, Fail> {
     let mut numbers = Vec::new(alloc);
-    for line in text.lines() {
+    for line in str::from_utf8(text)?.lines() {
         let at = numbers.len();
         if let Some(number) = receipt_number(alloc, line, at / 7, at % 7)? {
             numbers.push(number)?;
@@ -48,7 +54,7 @@ fn numbers_in(alloc: Global, text: &str) -> Result<Vec<u64>, Fail> {
     Ok(numbers)
 }
 
-// Whether each number below 14 stands there once, and those of each downlink rise.
+/// Whether each number below 14 stands there once, and those of each downlink rise.
 fn is_merge(numbers: &[u64]) -> bool {
     numbers.len() == 14
         && (0..14).all(|number| numbers.contains(&number))
@@ -61,20 +67,16 @@ fn two_recordings_come_onto_one_shelf(rt: HostRuntime) -> Result<(), Fail> {
     let bytes = two_streams(alloc, "make 1 8 0", "make 2 8 0", 8)?;
     let mut disk = empty_shelf(alloc)?;
     let printed = call(&rt, alloc, &faultless(WORDS, &bytes, 65_536), &mut disk)?;
-    assert!(rt; printed.status == 0);
-    let last = lines!(downlinks 2 symbols 262144 files 14;);
-    assert!(rt; printed.out.as_slice().ends_with(last.as_bytes()));
-    let text = String::from_utf8(printed.out.as_slice().to_vec(alloc)?);
-    let Ok(text) = text else {
-        return Err(Fail::from("no text"));
-    };
-    assert!(rt; is_merge(&numbers_in(alloc, text.as_str())?));
-    let listed = call_alone(alloc, &faultless("list", &[], 1), &mut disk)?;
-    assert!(rt; listed.status == 0);
+    let last = b"downlinks 2 symbols 262144 files 14\n";
+    assert!(rt; printed.ended_with(WORDS, last, DONE)?);
+    let numbers = numbers_in(alloc, printed.out.as_slice())?;
+    assert!(rt; is_merge(&numbers), "the numbers are {numbers:?}");
+    let listed = called(alloc, &mut disk, &faultless("list", &[], 1))?;
+    assert!(rt; listed.has_status("list", 0)?);
     Ok(())
 }
 
-// Whether these bytes are refused as no bundle, and nothing is changed on the shelf.
+/// Whether these bytes are refused as no bundle, and nothing is changed on the shelf.
 fn is_flawed<R: Threads + Wait + Sync>(
     rt: &R,
     alloc: Global,
@@ -84,25 +86,22 @@ fn is_flawed<R: Threads + Wait + Sync>(
     let untouched = empty_shelf(alloc)?;
     let mut disk = empty_shelf(alloc)?;
     let printed = call(rt, alloc, &faultless(WORDS, bytes, 3), &mut disk)?;
-    Ok(ends_with(&printed, 14, "", line)? && disk.as_slice() == untouched.as_slice())
+    Ok(
+        printed.ended_so(line, &[], End(14, line))?
+            && is_text("the disk", disk.as_slice(), untouched.as_slice())?,
+    )
 }
 
 #[test]
 fn bytes_that_are_no_bundle_are_refused(rt: HostRuntime) -> Result<(), Fail> {
     let alloc = rt.alloc();
-    assert!(rt; is_flawed(&rt, alloc, &[], lines!(station: bad bundle: ended 0;))?);
-    assert!(rt; is_flawed(&rt, alloc, &[0], lines!(station: bad bundle: count 0;))?);
-    assert!(rt; is_flawed(&rt, alloc, &[17, 1], lines!(station: bad bundle: count 17;))?);
-    assert!(rt;
-        is_flawed(
-            &rt,
-            alloc,
-            &[1, 0, 0, 0, 0],
-            lines!(station: bad bundle: ended 5;)
-        )?
-    );
+    assert!(rt; is_flawed(&rt, alloc, &[], "station: bad bundle: ended 0\n")?);
+    assert!(rt; is_flawed(&rt, alloc, &[0], "station: bad bundle: count 0\n")?);
+    assert!(rt; is_flawed(&rt, alloc, &[17, 1], "station: bad bundle: count 17\n")?);
+    let ended = [1, 0, 0, 0, 0];
+    assert!(rt; is_flawed(&rt, alloc, &ended, "station: bad bundle: ended 5\n")?);
     let rest = [1, 0, 0, 0, 0, 0, 0, 0, 0, 0];
-    assert!(rt; is_flawed(&rt, alloc, &rest, lines!(station: bad bundle: rest 9;))?);
+    assert!(rt; is_flawed(&rt, alloc, &rest, "station: bad bundle: rest 9\n")?);
     Ok(())
 }
 
@@ -114,19 +113,21 @@ fn recordings_may_have_no_symbols(rt: HostRuntime) -> Result<(), Fail> {
         empty.push(Vec::new(alloc))?;
     }
     let bytes = bundle_of(alloc, &empty)?;
-    let mut disk = empty_shelf(alloc)?;
-    let printed = call(&rt, alloc, &faultless(WORDS, &bytes, 1), &mut disk)?;
-    assert!(rt; ends_with(&printed, 0, lines!(downlinks 16 symbols 0 files 0;), "")?);
+    let printed = call(
+        &rt,
+        alloc,
+        &faultless(WORDS, &bytes, 1),
+        &mut empty_shelf(alloc)?,
+    )?;
+    assert!(rt; printed.ended_so(WORDS, b"downlinks 16 symbols 0 files 0\n", DONE)?);
     Ok(())
 }
 
 #[test]
 fn one_thread_knows_no_downlinks(rt: HostRuntime) -> Result<(), Fail> {
     let alloc = rt.alloc();
-    let mut disk = empty_shelf(alloc)?;
-    let printed = call_alone(alloc, &faultless(WORDS, &[0], 1), &mut disk)?;
-    let line = lines!(station: usage: SHELF COMMAND [WORDS];);
-    assert!(rt; ends_with(&printed, 2, "", line)?);
+    let printed = called(alloc, &mut empty_shelf(alloc)?, &faultless(WORDS, &[0], 1))?;
+    assert!(rt; printed.ended_so(WORDS, &[], USAGE)?);
     Ok(())
 }
 
@@ -136,14 +137,14 @@ fn a_source_that_fails_shelves_nothing(rt: HostRuntime) -> Result<(), Fail> {
     let bytes = two_streams(alloc, "make 1 2 0", "make 2 2 0", 2)?;
     let untouched = empty_shelf(alloc)?;
     for place in [0, 1, 9, 20_000] {
-        let fails = Given {
-            source_fault: place,
+        let fails = Call {
+            source_fails: place,
             ..faultless(WORDS, &bytes, 4_096)
         };
+        let name = format!(in alloc; "a source that fails at {place}")?;
         let mut disk = empty_shelf(alloc)?;
-        let printed = call(&rt, alloc, &fails, &mut disk)?;
-        assert!(rt; ends_with(&printed, 3, "", lines!(station: source failed;))?);
-        assert!(rt; disk.as_slice() == untouched.as_slice());
+        call(&rt, alloc, &fails, &mut disk)?.ended_so(&name, &[], SOURCE_FAILED)?;
+        is_text(name, disk.as_slice(), untouched.as_slice())?;
     }
     Ok(())
 }
@@ -154,17 +155,22 @@ fn an_output_that_fails_leaves_the_files(rt: HostRuntime) -> Result<(), Fail> {
     let bytes = two_streams(alloc, "make 1 2 0", "make 2 2 0", 2)?;
     let mut whole = empty_shelf(alloc)?;
     let all = call(&rt, alloc, &faultless(WORDS, &bytes, 65_536), &mut whole)?;
-    assert!(rt; all.status == 0);
+    assert!(rt; all.has_status(WORDS, 0)?);
     for place in [0, 10, 30] {
-        let fails = Given {
-            out_fault: place,
+        let fails = Call {
+            out_fails: place,
             ..faultless(WORDS, &bytes, 65_536)
         };
+        let name = format!(in alloc; "an output that fails at {place}")?;
         let mut disk = empty_shelf(alloc)?;
         let printed = call(&rt, alloc, &fails, &mut disk)?;
-        assert!(rt; printed.status == 5);
-        assert!(rt; printed.out.as_slice().len() as u64 == place);
-        assert!(rt; disk.as_slice().len() == whole.as_slice().len());
+        printed.has_status(&name, 5)?;
+        is_number(name.as_str(), printed.out.as_slice().len() as u64, place)?;
+        is_number(
+            name,
+            disk.as_slice().len() as u64,
+            whole.as_slice().len() as u64,
+        )?;
     }
     Ok(())
 }
@@ -173,28 +179,17 @@ fn an_output_that_fails_leaves_the_files(rt: HostRuntime) -> Result<(), Fail> {
 fn a_full_shelf_keeps_what_has_a_receipt(rt: HostRuntime) -> Result<(), Fail> {
     let alloc = rt.alloc();
     let bytes = two_streams(alloc, "make 1 8 0", "make 2 8 0", 8)?;
-    let mut disk = disk_of_calls(alloc, 10_000)?;
-    let made = call_alone(alloc, &faultless("init 2020", &[], 1), &mut disk)?;
-    assert!(rt; made.status == 0);
-    let printed = call(&rt, alloc, &faultless(WORDS, &bytes, 65_536), &mut disk)?;
-    assert!(rt; printed.status == 10);
+    let mut full = disk(alloc, &[], 10_000)?;
+    let made = called(alloc, &mut full, &faultless("init 2020", &[], 1))?;
+    assert!(rt; made.has_status("init 2020", 0)?);
+    let printed = call(&rt, alloc, &faultless(WORDS, &bytes, 65_536), &mut full)?;
+    let (out, err) = (printed.out.as_slice(), printed.err.as_slice());
+    assert!(rt; printed.has_status(WORDS, 10)?);
     assert!(rt;
-        printed
-            .err
-            .as_slice()
-            .starts_with(lines!(station: capacity ..).as_bytes())
+        err.starts_with(b"station: capacity: needs "),
+        "err has {err:?}"
     );
-    assert!(rt;
-        printed
-            .out
-            .as_slice()
-            .starts_with(lines!(receipt..).as_bytes())
-    );
-    assert!(rt;
-        !printed
-            .out
-            .as_slice()
-            .ends_with(lines!(.. files 14;).as_bytes())
-    );
+    assert!(rt; out.starts_with(b"receipt "), "out has {out:?}");
+    assert!(rt; !out.ends_with(b" files 14\n"), "out has {out:?}");
     Ok(())
 }

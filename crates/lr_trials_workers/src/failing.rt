@@ -1,6 +1,8 @@
 //! Source, disk and `out` fail while workers run: what is printed and shelved is what one thread prints and shelves.
-use crate::calls::{Given, call, call_alone, empty_shelf, faultless, shelf_of_calls, symbols};
+use crate::calls::{call, empty_shelf, shelf_of_calls, symbols};
 use lr_disk::MemDisk;
+use lr_trials_station::call::called;
+use lr_trials_support::{Call, faultless, is_text};
 use std::alloc::Global;
 use std::sync::Wait;
 use std::test::Fail;
@@ -8,35 +10,41 @@ use std::thread::Threads;
 
 const WORDS: &str = "receive --workers 8";
 
-// Whether the call has this status, and leaves what one thread leaves.
+/// Whether the call has this status, and leaves what one thread leaves.
 fn ends_alike<R: Threads + Wait + Sync>(
     rt: &R,
     alloc: Global,
-    given: &Given<'_>,
-    mut disk: MemDisk,
-    mut other_disk: MemDisk,
+    case: &str,
+    given: &Call<'_>,
+    disks: (MemDisk, MemDisk),
     status: u8,
 ) -> Result<bool, Fail> {
+    let (mut disk, mut other) = disks;
     let printed = call(rt, alloc, given, &mut disk)?;
-    let alone = call_alone(alloc, given, &mut other_disk)?;
+    let alone = called(alloc, &mut other, given)?;
     Ok(
-        printed.status == status
-            && printed.is_like(&alone)
-            && disk.as_slice() == other_disk.as_slice(),
+        printed.has_status(case, status)?
+            && printed.is_like(case, &alone)?
+            && is_text(
+                format_args!("{case}: the disk"),
+                disk.as_slice(),
+                other.as_slice(),
+            )?,
     )
 }
 
 #[test]
 fn a_source_that_fails_ends_the_input(rt: HostRuntime) -> Result<(), Fail> {
     let alloc = rt.alloc();
-    let bytes = symbols(alloc, "make 1 16 0", 0, 16)?;
+    let bytes = symbols(alloc, "make 1 16 0", 16)?;
     for place in [0, 16_384, 131_072, 200_000] {
-        let fails = Given {
-            source_fault: place,
+        let fails = Call {
+            source_fails: place,
             ..faultless(WORDS, &bytes, 4_096)
         };
-        let (disk, other) = (empty_shelf(alloc)?, empty_shelf(alloc)?);
-        assert!(rt; ends_alike(&rt, alloc, &fails, disk, other, 3)?);
+        let name = format!(in alloc; "a source that fails at {place}")?;
+        let disks = (empty_shelf(alloc)?, empty_shelf(alloc)?);
+        ends_alike(&rt, alloc, &name, &fails, disks, 3)?;
     }
     Ok(())
 }
@@ -44,14 +52,15 @@ fn a_source_that_fails_ends_the_input(rt: HostRuntime) -> Result<(), Fail> {
 #[test]
 fn an_output_that_fails_ends_the_run(rt: HostRuntime) -> Result<(), Fail> {
     let alloc = rt.alloc();
-    let bytes = symbols(alloc, "make 1 16 0", 0, 16)?;
+    let bytes = symbols(alloc, "make 1 16 0", 16)?;
     for place in [0, 60, 300] {
-        let fails = Given {
-            out_fault: place,
+        let fails = Call {
+            out_fails: place,
             ..faultless(WORDS, &bytes, 65_536)
         };
-        let (disk, other) = (empty_shelf(alloc)?, empty_shelf(alloc)?);
-        assert!(rt; ends_alike(&rt, alloc, &fails, disk, other, 5)?);
+        let name = format!(in alloc; "an output that fails at {place}")?;
+        let disks = (empty_shelf(alloc)?, empty_shelf(alloc)?);
+        ends_alike(&rt, alloc, &name, &fails, disks, 5)?;
     }
     Ok(())
 }
@@ -59,11 +68,12 @@ fn an_output_that_fails_ends_the_run(rt: HostRuntime) -> Result<(), Fail> {
 #[test]
 fn a_disk_that_fails_ends_the_run(rt: HostRuntime) -> Result<(), Fail> {
     let alloc = rt.alloc();
-    let bytes = symbols(alloc, "make 1 16 0", 0, 16)?;
+    let bytes = symbols(alloc, "make 1 16 0", 16)?;
     for calls in [12, 20, 33] {
         let good = faultless(WORDS, &bytes, 65_536);
-        let (disk, other) = (shelf_of_calls(alloc, calls)?, shelf_of_calls(alloc, calls)?);
-        assert!(rt; ends_alike(&rt, alloc, &good, disk, other, 4)?);
+        let name = format!(in alloc; "a disk of {calls} calls")?;
+        let disks = (shelf_of_calls(alloc, calls)?, shelf_of_calls(alloc, calls)?);
+        ends_alike(&rt, alloc, &name, &good, disks, 4)?;
     }
     Ok(())
 }

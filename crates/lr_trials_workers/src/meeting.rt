@@ -1,15 +1,13 @@
 //! Hands meet: each waits at its first window until as many hands as there are workers have a window.
 ghost use Rattle.std.specs.Prelude.{◌≡◌};
 
-use crate::calls::{
-    Printed, call, disk_of_calls, empty_shelf, err_of, faultless, out_of, source_of, symbols,
-};
+use crate::calls::{call, empty_shelf, symbols};
 use lr_bits::NoMemory;
 use lr_disk::MemDisk;
 use lr_frame::{FrameDone, FrameWork, Hand};
 use lr_lock::Window;
 use lr_station::station_with;
-use lr_trials_wanted::words_of;
+use lr_trials_support::{Call, Printed, disk, faultless, is_text, parts_of};
 use std::alloc::Global;
 use std::sync::atomic::Ordering::SeqCst;
 use std::sync::atomic::{AtomicBool, AtomicU32};
@@ -73,80 +71,80 @@ impl Hand for Meeting {
 fn call_with<R: Threads + Wait + Sync>(
     rt: &R,
     alloc: Global,
-    words: &str,
-    bytes: &[u8],
+    call: &Call<'_>,
     tools: &Place,
     disk: &mut MemDisk,
 ) -> Result<Printed, Fail> {
-    let given = faultless(words, bytes, 65_536);
-    let words = words_of(alloc, given.words)?;
-    let mut source = source_of(alloc, &given)?;
-    let mut out = out_of(alloc, &given)?;
-    let mut err = err_of(alloc)?;
+    let mut parts = parts_of(alloc, call)?;
     let status = station_with::<Meeting, R, _, _, _, _>(
         rt,
         alloc,
-        &words,
+        &parts.words,
         tools,
-        &mut source,
+        &mut parts.source,
         disk,
-        &mut out,
-        &mut err,
+        &mut parts.out,
+        &mut parts.err,
     );
-    Ok(Printed { status, out, err })
+    Ok(parts.ended(status))
 }
 
-// Whether this many hands meet, and the call leaves what it leaves with other hands.
+/// Whether this many hands meet, and the call leaves what it leaves with other hands.
 fn meets<R: Threads + Wait + Sync>(
     rt: &R,
     alloc: Global,
     hands: u32,
     words: &str,
-    mut disk: MemDisk,
-    mut other_disk: MemDisk,
+    disks: (MemDisk, MemDisk),
 ) -> Result<bool, Fail> {
-    let bytes = symbols(alloc, "make 1 16 0", 0, 16)?;
+    let (mut disk, mut other) = disks;
+    let bytes = symbols(alloc, "make 1 16 0", 16)?;
+    let given = faultless(words, &bytes, 65_536);
     let place = Place {
         hands,
         begun: Arc::new(alloc, AtomicU32::new(0))?,
         too_late: Arc::new(alloc, AtomicBool::new(false))?,
     };
-    let printed = call_with(rt, alloc, words, &bytes, &place, &mut disk)?;
-    let usual = call(
-        rt,
-        alloc,
-        &faultless(words, &bytes, 65_536),
-        &mut other_disk,
-    )?;
+    let printed = call_with(rt, alloc, &given, &place, &mut disk)?;
+    let usual = call(rt, alloc, &given, &mut other)?;
     let in_time = place.begun.load(SeqCst) >= hands && !place.too_late.load(SeqCst);
     Ok(
-        in_time
-            && usual.status == 0
-            && printed.is_like(&usual)
-            && disk.as_slice() == other_disk.as_slice(),
+        usual.has_status(words, 0)?
+            && printed.is_like(words, &usual)?
+            && is_text("the disk", disk.as_slice(), other.as_slice())?
+            && in_time,
     )
 }
 
 #[test]
 fn two_hands_meet_in_decode(rt: HostRuntime) -> Result<(), Fail> {
     let alloc = rt.alloc();
-    let (disk, other) = (disk_of_calls(alloc, 0)?, disk_of_calls(alloc, 0)?);
-    assert!(rt; meets(&rt, alloc, 2, "decode --workers 2", disk, other)?);
+    let disks = (disk(alloc, &[], 0)?, disk(alloc, &[], 0)?);
+    assert!(rt;
+        meets(&rt, alloc, 2, "decode --workers 2", disks)?,
+        "they didn't meet"
+    );
     Ok(())
 }
 
 #[test]
 fn two_hands_meet_in_receive(rt: HostRuntime) -> Result<(), Fail> {
     let alloc = rt.alloc();
-    let (disk, other) = (empty_shelf(alloc)?, empty_shelf(alloc)?);
-    assert!(rt; meets(&rt, alloc, 2, "receive --workers 2", disk, other)?);
+    let disks = (empty_shelf(alloc)?, empty_shelf(alloc)?);
+    assert!(rt;
+        meets(&rt, alloc, 2, "receive --workers 2", disks)?,
+        "they didn't meet"
+    );
     Ok(())
 }
 
 #[test]
 fn eight_hands_meet_in_receive(rt: HostRuntime) -> Result<(), Fail> {
     let alloc = rt.alloc();
-    let (disk, other) = (empty_shelf(alloc)?, empty_shelf(alloc)?);
-    assert!(rt; meets(&rt, alloc, 8, "receive --workers 8", disk, other)?);
+    let disks = (empty_shelf(alloc)?, empty_shelf(alloc)?);
+    assert!(rt;
+        meets(&rt, alloc, 8, "receive --workers 8", disks)?,
+        "they didn't meet"
+    );
     Ok(())
 }

@@ -1,13 +1,13 @@
 // Files that a transmission ends with don't wait for the noise after it, however slow the hands are.
 ghost use Rattle.std.specs.Prelude.{◌≡◌};
 
-use crate::calls::{empty_shelf, err_of, symbols};
+use crate::calls::{empty_shelf, symbols};
 use lr_bits::{Failed, NoMemory};
 use lr_frame::{FrameDone, FrameWork, Hand};
 use lr_io::{MemSink, MemSource, Sink, Source};
 use lr_lock::Window;
 use lr_station::station_with;
-use lr_trials_wanted::words_of;
+use lr_trials_support::{is_number, words_of};
 use std::alloc::Global;
 use std::sync::atomic::AtomicU32;
 use std::sync::atomic::Ordering::SeqCst;
@@ -99,14 +99,10 @@ impl Hand for Slow {
     }
 }
 
-/// How many lines had been put when the source was asked for more noise, and how many were put in all but the last
-/// one.
-fn lines_put<R: Threads + Wait + Sync>(
-    rt: &R,
-    alloc: Global,
-    words: &str,
-) -> Result<(u32, u32), Fail> {
-    let mut bytes = symbols(alloc, "make 1 64 0", 0, 64)?;
+/// Whether the lines of all 63 files had been put when the source was asked for more noise, and the last line alone
+/// came after it.
+fn puts_all<R: Threads + Wait + Sync>(rt: &R, alloc: Global, words: &str) -> Result<bool, Fail> {
+    let mut bytes = symbols(alloc, "make 1 64 0", 64)?;
     let quiet = bytes.len() + PIECES_HEARD as usize * 65_536;
     for _ in 0..6 * 65_536 {
         bytes.push(0)?;
@@ -125,41 +121,40 @@ fn lines_put<R: Threads + Wait + Sync>(
         lines: Arc::try_clone(&lines)?,
     };
     let mut disk = empty_shelf(alloc)?;
-    let mut err = err_of(alloc)?;
-    let words = words_of(alloc, words)?;
+    let mut err = MemSink::of(alloc, Vec::new(alloc), 100)?;
+    let call_words = words_of(alloc, words)?;
     let status = station_with::<Slow, R, _, _, _, _>(
         rt,
         alloc,
-        &words,
+        &call_words,
         &(),
         &mut source,
         &mut disk,
         &mut out,
         &mut err,
     );
-    if status != 0 {
-        return Err(Fail::from("the call failed"));
-    }
-    Ok((seen.load(SeqCst), lines.load(SeqCst).saturating_sub(1)))
+    is_number(words, u64::from(status), 0)?;
+    let (seen, put) = (seen.load(SeqCst), lines.load(SeqCst));
+    Ok(
+        is_number("lines before the noise", u64::from(seen), 63)?
+            && is_number("lines in all", u64::from(put), 64)?,
+    )
 }
 
 #[test]
 fn with_one_hand_no_file_waits_for_noise(rt: HostRuntime) -> Result<(), Fail> {
-    let (seen, all) = lines_put(&rt, rt.alloc(), "receive --workers 1")?;
-    assert!(rt; seen == 63 && all == 63);
+    assert!(rt; puts_all(&rt, rt.alloc(), "receive --workers 1")?);
     Ok(())
 }
 
 #[test]
 fn with_two_hands_no_file_waits_for_noise(rt: HostRuntime) -> Result<(), Fail> {
-    let (seen, all) = lines_put(&rt, rt.alloc(), "receive --workers 2")?;
-    assert!(rt; seen == 63 && all == 63);
+    assert!(rt; puts_all(&rt, rt.alloc(), "receive --workers 2")?);
     Ok(())
 }
 
 #[test]
 fn with_eight_hands_no_file_waits_for_noise(rt: HostRuntime) -> Result<(), Fail> {
-    let (seen, all) = lines_put(&rt, rt.alloc(), "receive --workers 8")?;
-    assert!(rt; seen == 63 && all == 63);
+    assert!(rt; puts_all(&rt, rt.alloc(), "receive --workers 8")?);
     Ok(())
 }

@@ -1,15 +1,6 @@
 //! The words of a call, as memory of its own.
 use std::alloc::{AllocError, Global};
 
-/// These words.
-pub fn owned_words(alloc: Global, words: &[&str]) -> Result<Vec<String>, AllocError> {
-    let mut all = Vec::new(alloc);
-    for word in words {
-        all.push(String::from_str(alloc, word)?)?;
-    }
-    Ok(all)
-}
-
 /// The words of a line, which stand one space apart.
 pub fn words_of(alloc: Global, line: &str) -> Result<Vec<String>, AllocError> {
     let mut words = Vec::new(alloc);

@@ -1,13 +1,6 @@
-//! What tests want: the printed lines by name, what a test says where something else came than it wanted, and the words
-//! of a call.
-#![tactic(auto)]
-
-mod texts;
-mod words;
-
+//! What a failed test says: where what came differs from what was wanted.
+use std::fmt::Display;
 use std::test::Fail;
-pub use texts::receipt_number;
-pub use words::{owned_words, words_of};
 
 /// The most bytes of each text that a failure shows.
 const SHOWN: usize = 180;
@@ -49,15 +42,15 @@ fn rest_of_line(bytes: &[u8], place: usize) -> &str {
 
 /// Where bytes that came differ from those that were wanted: the first place at which they do, what stands before it in
 /// its line, and the rest of the line from there on, of both.
-pub struct Differing<'a> {
-    pub place: usize,
-    pub before: &'a str,
-    pub came: &'a str,
-    pub wanted: &'a str,
+struct Differing<'a> {
+    place: usize,
+    before: &'a str,
+    came: &'a str,
+    wanted: &'a str,
 }
 
 /// Where these bytes differ from those that were wanted, if they do.
-pub fn difference<'a>(came: &'a [u8], wanted: &'a [u8]) -> Option<Differing<'a>> {
+fn difference<'a>(came: &'a [u8], wanted: &'a [u8]) -> Option<Differing<'a>> {
     if came == wanted {
         return None;
     }
@@ -72,8 +65,9 @@ pub fn difference<'a>(came: &'a [u8], wanted: &'a [u8]) -> Option<Differing<'a>>
     })
 }
 
-/// Whether just these bytes came. Where others did, the failure has both from the first byte that differs.
-pub fn is_text(what: &str, came: &[u8], wanted: &[u8]) -> Result<bool, Fail> {
+/// Whether just these bytes came. Where others did, the failure says of what, and has both from the first byte that
+/// differs.
+pub fn is_text<W: Display + Drop>(what: W, came: &[u8], wanted: &[u8]) -> Result<bool, Fail> {
     let Some(
         Differing {
             place,
@@ -90,10 +84,15 @@ pub fn is_text(what: &str, came: &[u8], wanted: &[u8]) -> Result<bool, Fail> {
     )))
 }
 
-/// Whether this status came. Where another one did, the failure has both.
-pub fn is_status(came: u8, wanted: u8) -> Result<bool, Fail> {
+/// Whether this number came. Where another one did, the failure says of what, and has both.
+pub fn is_number<W: Display + Drop>(what: W, came: u64, wanted: u64) -> Result<bool, Fail> {
     if came == wanted {
         return Ok(true);
     }
-    Err(Fail::new(format_args!("the status is {came}, and not {wanted}")))
+    Err(Fail::new(format_args!("{what} is {came}, and not {wanted}")))
+}
+
+/// Whether this status came.
+pub fn is_status(came: u8, wanted: u8) -> Result<bool, Fail> {
+    is_number("the status", u64::from(came), u64::from(wanted))
 }
