@@ -22,7 +22,7 @@ use Rattle.lr_io.specs.MemSource.{MayAnswer, MovesOnce, bytes_moved, cut_places,
 use Rattle.lr_io.specs.declared.sink.Sink.{Ghosts as SinkOf}
 use Rattle.lr_io.specs.declared.source.MemSource.{MemSource}
 use Rattle.lr_io.specs.declared.source.Source.{Ghosts as SourceOf}
-use Rattle.lr_layers.specs.Origins.{placed_of_outcomes}
+use Rattle.lr_cmd_receive.specs.Noted.{noted_of_outcomes}
 use Rattle.lr_lock.proofs.Bytes.{length-symbols_of, symbols_of-append}
 use Rattle.lr_lock.proofs.Existing.{prefix_stays}
 use Rattle.lr_lock.specs.Frames.{place_after_frame}
@@ -117,9 +117,9 @@ module _ (line : LineCode) (bytes more : List ℕ) (count : ℕ)
 
 -- ---- a file's line, from where the source was cut
 
-module _ {D O : Type 0} (disk : DiskOf D) (out : SinkOf O) (line : LineCode) (most : ℕ) (s s' : MemSource)
+module _ {D O : Type 0} (disk : DiskOf D) (out : SinkOf O) (line : LineCode) (mend most : ℕ) (s s' : MemSource)
     (d d' : D) (o o' : O) (cause : Cause)
-    (run : ReceiveRun (world_of mem_source disk out) (receive_query (Symbols line) 1 most) cause (outside s d o)
+    (run : ReceiveRun (world_of mem_source disk out) (receive_query mend (Symbols line) 1 most) cause (outside s d o)
     (outside s' d' o')) (fresh : bytes_moved s ≡ 0) (place count : ℕ) (way : Way)
     (cut : Contains (cut_places s) place) (past : place < bytes_moved s')
     (come : HaveCome (Symbols line) (WINDOW_END - FRAME_SYMBOLS) (take place (left_of s)) count)
@@ -130,7 +130,7 @@ module _ {D O : Type 0} (disk : DiskOf D) (out : SinkOf O) (line : LineCode) (mo
 
   pub lines_there : (text : List ℕ) × (out.contents o' ≡ out.contents o
       ++ (shelved_lines (length way.entries)
-      (placed_of_outcomes (take count (outcomes_of_bytes (Symbols line) first))) ++ text))
+      (noted_of_outcomes mend (take count (outcomes_of_bytes (Symbols line) first))) ++ text))
   lines_there =
       let keeps = run.keeps_up (OfWay way (disk.contents d)) told (begun_way way (disk.contents d) is_way)
       (λ none. only) in
@@ -157,7 +157,7 @@ module _ {D O : Type 0} (disk : DiskOf D) (out : SinkOf O) (line : LineCode) (mo
       let text = known.told tells in (
         text.0,
         text.1 ∙ ap (λ (l : List Outcome). out.contents o
-            ++ (shelved_lines (length way.entries) (placed_of_outcomes l) ++ text.0))
+            ++ (shelved_lines (length way.entries) (noted_of_outcomes mend l) ++ text.0))
             (ap (λ (l : List ℕ). take count (outcomes_of_bytes (Symbols line) l)) split
             ∙ same_outcomes line first more count come),
       )) keeps.in_time

@@ -5,7 +5,8 @@ ghost use Rattle.lr_cmd_receive.specs.Shelving.{shelved_lines};
 ghost use Rattle.lr_disk.specs.Pending.{NothingPending};
 ghost use Rattle.lr_forms.specs.declared.forms.Input.TheVariants.{Symbols};
 ghost use Rattle.lr_io.specs.MemSource.{bytes_moved, cut_places, left_of};
-ghost use Rattle.lr_layers.specs.Origins.{placed_of_outcomes};
+ghost use Rattle.lr_cmd_receive.specs.Noted.{noted_of_outcomes};
+ghost use Rattle.lr_mend.specs.declared.mender.TheConstants.{MOST_FILLERS};
 ghost use Rattle.lr_lock.specs.declared.sizes.TheConstants.{WINDOW_END};
 ghost use Rattle.lr_reading.specs.Inputs.{outcomes_of_bytes};
 ghost use Rattle.lr_reading.specs.Readers.{HaveCome};
@@ -24,20 +25,22 @@ use std::alloc::Global;
 pub fn receive_symbols<D: Disk, O: Sink>(
     alloc: Global,
     line: LineCode,
+    mend: u16,
     most: u64,
     source: &mut MemSource,
     disk: &mut D,
     out: &mut O,
 ) -> Cause
     requires few { most ≤ 2 ^ 48 }
+    requires mend { mend ≤ MOST_FILLERS }
     requires fresh { bytes_moved source.old ≡ 0 }
     ensures lines { (place count : ℕ) (way : Way) → Contains (cut_places source.old) place
         → place < bytes_moved source.new
         → HaveCome (Symbols line) (WINDOW_END - FRAME_SYMBOLS) (take place (left_of source.old)) count
         → D.tells disk.old → IsWay (D.contents disk.old) way → NothingPending D.Disk disk.old → O.tells out.old
         → (text : List ℕ) × (O.contents out.new ≡ O.contents out.old
-        ++ (shelved_lines (length way.entries) (placed_of_outcomes
+        ++ (shelved_lines (length way.entries) (noted_of_outcomes mend
         (take count (outcomes_of_bytes (Symbols line) (take place (left_of source.old))))) ++ text)) }
 {
-    receive_alone(alloc, Input::Symbols(line), most, source, disk, out)
+    receive_alone(alloc, Input::Symbols(line), mend, most, source, disk, out)
 }

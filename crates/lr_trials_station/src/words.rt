@@ -125,6 +125,16 @@ static READ: [(&str, &[&str], &[u64]); 56] = [
         &["receive", "blocks"],
         &[1099511627776, 2],
     ),
+    (
+        "receive --mend 1 --input frames",
+        &["receive", "frames"],
+        &[1099511627776, 1, 1],
+    ),
+    (
+        "receive --input frames --symbols 9 --mend=1023",
+        &["receive", "frames"],
+        &[9, 1, 1023],
+    ),
     ("make 1 2 3", &["make", "symbols"], &[1, 2, 3]),
     (
         "make --output blocks 1 2 3",
@@ -305,6 +315,12 @@ static WRONG_VALUES: [&str; 58] = [
     "decode --g2=",
     "receive --workers 0",
     "receive --workers 65",
+    "receive --mend 0",
+    "receive --mend 1024",
+    "receive --mend",
+    "decode --mend 1",
+    "trial 0 1 0 --mend 1",
+    "downlinks --mend 1",
     "trial 0 1 0 --workers 0",
     "receive --input windows",
     "receive --line NRZ-L",
@@ -328,7 +344,15 @@ fn lines_name(lines: FrameLines) -> &'static str {
 fn intake_name(action: IntakeAction) -> &'static str {
     match action {
         IntakeAction::Decode => "decode",
-        IntakeAction::Receive => "receive",
+        IntakeAction::Receive { mend: _ } => "receive",
+    }
+}
+
+/// How many fillers an image may have.
+fn mend_of(action: IntakeAction) -> u16 {
+    match action {
+        IntakeAction::Decode => 0,
+        IntakeAction::Receive { mend } => mend,
     }
 }
 
@@ -377,14 +401,15 @@ struct Told {
     numbers: [u64; 4],
 }
 
-fn told_input(name: &'static str, input: Input, workers: u32, most: u64) -> Told {
+fn told_input(action: IntakeAction, input: Input, workers: u32, most: u64) -> Told {
+    let name = intake_name(action);
     let names = match input {
         Input::Symbols(line) => [name, "symbols", line_name(line), g2_name(line)],
         Input::Units(form) => [name, unit_name(form), "", ""],
     };
     Told {
         names,
-        numbers: [most, u64::from(workers), 0, 0],
+        numbers: [most, u64::from(workers), u64::from(mend_of(action)), 0],
     }
 }
 
@@ -412,7 +437,7 @@ fn told_of(command: Command) -> Told {
             input,
             workers,
             most,
-        } => told_input(intake_name(action), input, workers, most),
+        } => told_input(action, input, workers, most),
         Command::Downlinks { line } => told_of_line("downlinks", line, [0; 4]),
         Command::OnShelf(action) => told_plain(shelf_name(action), [0; 4]),
         Command::OnFile(action, number) => told_plain(file_name(action), [number, 0, 0, 0]),
