@@ -9,7 +9,7 @@ use std::alloc::{AllocError, Global};
 use std::test::Fail;
 
 /// Words with a space between them, and the names and the numbers of the command that they give.
-static READ: [(&str, &[&str], &[u64]); 56] = [
+static READ: [(&str, &[&str], &[u64]); 58] = [
     ("init 100", &["init"], &[100]),
     ("init -- 100", &["init"], &[100]),
     ("init 00000000000000000100", &["init"], &[100]),
@@ -267,7 +267,7 @@ static NO_COMMAND: [&str; 22] = [
 ];
 
 /// Words of which a value is none.
-static WRONG_VALUES: [&str; 58] = [
+static WRONG_VALUES: [&str; 64] = [
     "downlinks --line plain",
     "repack 0 10",
     "repack 0 0",
