@@ -83,6 +83,23 @@ form() {
     esac
 }
 
+# for_decode OPTIONS: those of these options of `receive` that `decode` has too, which are all but --mend
+for_decode() {
+    kept= skip=
+    for word in $1; do
+        if [ -n "$skip" ]; then
+            skip=
+        else
+            case $word in
+            --mend) skip=yes ;;
+            --mend=*) ;;
+            *) kept="$kept $word" ;;
+            esac
+        fi
+    done
+    echo "$kept"
+}
+
 # reason STATUS: what a status says, in words
 reason() {
     case $1 in

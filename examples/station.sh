@@ -5,7 +5,7 @@
 #   SOURCE    the command that writes soft symbols, blocks or frames to its standard output, as the shell takes it
 #   RATE      symbols a second
 #   CAPACITY  bytes that a shelf may have
-#   OPTIONS   --line, --g2 and --input of `receive`
+#   OPTIONS   --line, --g2, --input and --mend of `receive`
 # The program is $LRITSTATION, or else `lritstation` on the path, and the quality is told by `gomtasil`. Each file and
 # each minute has a line, on standard output and on standard error. It ends when the reception does, with its status,
 # and ends the command then; with 2 where the command can't be run. Where the quality side ends, or can't write, the
@@ -30,8 +30,8 @@ lines() {
     if [ "$(form "${OPTIONS-}")" = frames ]; then
         "$program" - frames
     else
-        # shellcheck disable=SC2086 # (they are several words)
-        "$program" - decode ${OPTIONS-}
+        # shellcheck disable=SC2046 # (they are several words)
+        "$program" - decode $(for_decode "${OPTIONS-}")
     fi
 }
 

@@ -132,6 +132,15 @@ rm /srv/station/*.shelf
 systemctl start station.service
 until_it has_files /srv/station 63
 
+# images may be mended: the reception has the option, and the quality is told beside it
+systemctl stop station.service
+sed -i 's/^SOURCE=.*/SOURCE="cat \/srv\/symbols"/; s/^OPTIONS=.*/OPTIONS="--mend 64"/' /etc/gomtasil/station.conf
+cp symbols /srv/symbols
+rm -f /srv/station/*.shelf /srv/station/quality
+systemctl start station.service
+until_it grep -q 'minute 0 frames 93 lost 0' /srv/station/quality
+[ "$(said station.service ' mended 0')" -ge 63 ] || fail "no lines of --mend in the journal"
+
 # a source that can't be run stays down, and is told
 systemctl stop station.service
 sed -i 's/^SOURCE=.*/SOURCE="nosuch -x"/' /etc/gomtasil/station.conf
