@@ -13,6 +13,7 @@ const ROOM: usize = 64;
 const CALLS: u64 = 50;
 
 /// What a call answered, and the three rooms after it.
+#[derive(Drop)]
 struct Handed {
     answer: u32,
     counts: Counts,
@@ -25,7 +26,7 @@ struct Handed {
 const NEW: &[u8] = b"\x5ALRSHELF\x02\x00\x00\x00\x00\x00\x00\x00\x64\xE0\x53\x00";
 
 /// Runs these words over this shelf, with so many bytes of room for what is put and for the shelf.
-fn handed(alloc: Global, words: &[u8], shelf: &[u8], out_room: usize, shelf_room: usize) -> Handed {
+fn run_with(alloc: Global, words: &[u8], shelf: &[u8], out_room: usize, shelf_room: usize) -> Handed {
     let mut counts = Counts {
         out: 1,
         err: 1,
@@ -61,13 +62,13 @@ fn got(room: &[u8], count: u64, bytes: &[u8]) -> bool {
 }
 
 /// Whether the rooms are as they were.
-fn stays(handed: &Handed) -> bool {
-    got(&handed.out, 0, b"") && got(&handed.err, 0, b"") && got(&handed.kept, 0, b"")
+fn stays(after: &Handed) -> bool {
+    got(&after.out, 0, b"") && got(&after.err, 0, b"") && got(&after.kept, 0, b"")
 }
 
 #[test]
 fn a_shelf_is_made(rt: HostRuntime) -> Result<(), Fail> {
-    let made = handed(rt.alloc(), b"init\n100", b"", ROOM, ROOM);
+    let made = run_with(rt.alloc(), b"init\n100", b"", ROOM, ROOM);
     assert_eq!(rt; made.answer, 0);
     assert!(rt; got(&made.out, made.counts.out, b"shelf capacity 100\n"));
     assert!(rt; got(&made.err, made.counts.err, b""));
@@ -77,7 +78,7 @@ fn a_shelf_is_made(rt: HostRuntime) -> Result<(), Fail> {
 
 #[test]
 fn a_shelf_is_read(rt: HostRuntime) -> Result<(), Fail> {
-    let read = handed(rt.alloc(), b"list", NEW, ROOM, NEW.len());
+    let read = run_with(rt.alloc(), b"list", NEW, ROOM, NEW.len());
     assert_eq!(rt; read.answer, 0);
     assert!(rt; got(&read.out, read.counts.out, b""));
     assert!(rt; got(&read.kept, read.counts.shelf, NEW));
@@ -86,20 +87,20 @@ fn a_shelf_is_read(rt: HostRuntime) -> Result<(), Fail> {
 
 #[test]
 fn a_room_that_fills_up_is_a_status(rt: HostRuntime) -> Result<(), Fail> {
-    let full = handed(rt.alloc(), b"init\n100", b"", 5, ROOM);
+    let full = run_with(rt.alloc(), b"init\n100", b"", 5, ROOM);
     assert_eq!(rt; full.answer, 5);
     assert!(rt; got(&full.out, full.counts.out, b"shelf"));
-    let short = handed(rt.alloc(), b"init\n100", b"", ROOM, NEW.len() - 1);
+    let short = run_with(rt.alloc(), b"init\n100", b"", ROOM, NEW.len() - 1);
     assert_eq!(rt; short.answer, 4);
     Ok(())
 }
 
 #[test]
 fn three_answers_are_no_status(rt: HostRuntime) -> Result<(), Fail> {
-    let no_text = handed(rt.alloc(), b"list\xFF", NEW, ROOM, NEW.len() - 1);
+    let no_text = run_with(rt.alloc(), b"list\xFF", NEW, ROOM, NEW.len() - 1);
     assert_eq!(rt; no_text.answer, 257);
     assert!(rt; stays(&no_text));
-    let no_room = handed(rt.alloc(), b"list", NEW, ROOM, NEW.len() - 1);
+    let no_room = run_with(rt.alloc(), b"list", NEW, ROOM, NEW.len() - 1);
     assert_eq!(rt; no_room.answer, 258);
     assert_eq!(rt; no_room.counts.shelf, NEW.len() as u64);
     assert!(rt; stays(&no_room));
