@@ -87,7 +87,7 @@ pub(crate) struct Case(
 /// Where the last gate of the shelf of both files stands.
 const LAST_GATE: usize = 137;
 
-pub(crate) const OLD: Start = Start::Bytes(OLD_SHELF);
+pub(crate) const OLD: Start = Start::Bytes(&OLD_SHELF);
 
 fn again(alloc: Global) -> Result<Placed, Fail> {
     let origin = Origin {
