@@ -62,25 +62,32 @@ fn turn_some(window: &mut [i8], apart: usize) {
     }
 }
 
-/// Whether all kernels read a block back from its window, of which one symbol in every `apart` is turned.
+/// That all kernels read a block back from its window, of which one symbol in every `apart` is turned.
 fn comes_back(
     alloc: Global,
     kernels: &mut Kernels,
     line: LineCode,
     apart: usize,
-) -> Result<bool, NoMemory> {
+) -> Result<(), Fail> {
     let block = drawn_block(apart as u64);
     let mut window = window_of(alloc, line, &block)?;
     turn_some(&mut window, apart);
-    Ok(window.len() == WINDOW_SYMBOLS && kernels.bytes_of(line, &window) == Some(block))
+    let length = window.len();
+    if length == WINDOW_SYMBOLS && kernels.bytes_of(line, &window) == Some(block) {
+        return Ok(());
+    }
+    let LineCode { marks, inverted } = line;
+    Err(Fail::new(format_args!(
+        "marks {marks}, inverted {inverted}, one in {apart} of {length} turned: another block"
+    )))
 }
 
 #[test]
 fn blocks_come_back(rt: HostRuntime) -> Result<(), Fail> {
     let mut kernels = Kernels::new(rt.alloc())?;
     for line in LINES {
-        assert!(rt; comes_back(rt.alloc(), &mut kernels, line, 20_000)?);
-        assert!(rt; comes_back(rt.alloc(), &mut kernels, line, 25)?);
+        comes_back(rt.alloc(), &mut kernels, line, 20_000)?;
+        comes_back(rt.alloc(), &mut kernels, line, 25)?;
     }
     Ok(())
 }

@@ -108,16 +108,6 @@ fn checksum_of(windows: &[Found]) -> u64 {
     sum
 }
 
-/// Whether the drawn stream has this length, and its windows this checksum.
-fn agrees(alloc: Global, seed: u64, length: usize, checksum: u64) -> Result<bool, NoMemory> {
-    let stream = drawn_stream(alloc, seed)?;
-    if stream.len() != length || stream.len() > 1_000_000 {
-        return Ok(false);
-    }
-    let size = 1000 + (seed % 8) as usize * 9000;
-    Ok(checksum_of(&windows(alloc, &stream, size)?) == checksum)
-}
-
 /// The seed of a drawn stream, its length, and the checksum of its windows.
 static DRAWN: [(u64, usize, u64); 8] = [
     (1, 197041, 0x2C0EAEB8E6FFE83E),
@@ -133,10 +123,15 @@ static DRAWN: [(u64, usize, u64); 8] = [
 #[test]
 fn drawn_streams_agree(rt: HostRuntime) -> Result<(), Fail> {
     for (seed, length, checksum) in &DRAWN {
+        let stream = drawn_stream(rt.alloc(), *seed)?;
+        let count = stream.len();
         assert!(rt;
-            agrees(rt.alloc(), *seed, *length, *checksum)?,
-            "of the seed {seed}"
+            count == *length && count < 1_000_000,
+            "seed {seed}: {count} symbols"
         );
+        let size = 1000 + (*seed % 8) as usize * 9000;
+        let came = checksum_of(&windows(rt.alloc(), &stream, size)?);
+        assert!(rt; came == *checksum, "seed {seed}: the checksum is {came:x}");
     }
     Ok(())
 }

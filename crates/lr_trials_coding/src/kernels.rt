@@ -7,7 +7,8 @@ use lr_bits::{BLOCK_BYTES, NoMemory, WINDOW_SYMBOLS};
 use lr_conv::LineCode;
 use lr_lanes::{LaneScratch, nearest_lanes, nearest_narrow_lanes};
 use lr_trellis::{TrellisScratch, nearest};
-use std::alloc::{AllocError, Global};
+use std::alloc::Global;
+use std::fmt::Display;
 use std::test::Fail;
 
 /// Room for the kernels.
@@ -49,28 +50,35 @@ impl Kernels {
     }
 }
 
-/// Whether all kernels give the same bytes for a window under each line code.
-fn agree(kernels: &mut Kernels, window: &[i8]) -> bool
+/// What is said of a window for which kernels give different bytes.
+fn differing<N: Display + Drop>(line: LineCode, name: N) -> Fail {
+    let LineCode { marks, inverted } = line;
+    Fail::new(format_args!("{name}: the kernels differ (marks {marks}, inverted {inverted})"))
+}
+
+/// That all kernels give the same bytes for a window under each line code.
+fn agree(kernels: &mut Kernels, window: &[i8], name: &str) -> Result<(), Fail>
     requires { length window.now ≡ WINDOW_SYMBOLS }
 {
     for line in LINES {
         if kernels.bytes_of(line, window).is_none() {
-            return false;
+            return Err(differing(line, name));
         }
     }
-    true
+    Ok(())
 }
 
-/// Whether the lanes of both widths give the same bytes for a window under each line code.
-fn lanes_agree(kernels: &mut Kernels, window: &[i8]) -> bool
+/// That the lanes of both widths give the same bytes for a drawn window under each line code.
+fn lanes_agree(kernels: &mut Kernels, window: &[i8], start: u64) -> Result<(), Fail>
     requires { length window.now ≡ WINDOW_SYMBOLS }
 {
     for line in LINES {
         if kernels.lane_bytes(line, window).is_none() {
-            return false;
+            let name = format_args!("the lanes of window {start}");
+            return Err(differing(line, name));
         }
     }
-    true
+    Ok(())
 }
 
 #[test]
@@ -78,7 +86,7 @@ fn lanes_of_both_widths_agree_on_drawn_windows(rt: HostRuntime) -> Result<(), Fa
     let mut kernels = Kernels::new(rt.alloc())?;
     for start in 1..=1_000u64 {
         let window = drawn_window(rt.alloc(), start)?;
-        assert!(rt; lanes_agree(&mut kernels, &window));
+        lanes_agree(&mut kernels, &window, start)?;
     }
     Ok(())
 }
@@ -88,7 +96,8 @@ fn kernels_agree_on_windows_of_one_value(rt: HostRuntime) -> Result<(), Fail> {
     let mut kernels = Kernels::new(rt.alloc())?;
     for value in [-128i8, -127, 0, 127] {
         let window = vec![in rt.alloc(); value; WINDOW_SYMBOLS]?;
-        assert!(rt; agree(&mut kernels, &window));
+        let name = format!(in rt.alloc(); "a window of {value}")?;
+        agree(&mut kernels, &window, &name)?;
     }
     Ok(())
 }
@@ -98,7 +107,8 @@ fn kernels_agree_on_drawn_windows(rt: HostRuntime) -> Result<(), Fail> {
     let mut kernels = Kernels::new(rt.alloc())?;
     for start in 1..=32u64 {
         let window = drawn_window(rt.alloc(), start)?;
-        assert!(rt; agree(&mut kernels, &window));
+        let name = format!(in rt.alloc(); "window {start}")?;
+        agree(&mut kernels, &window, &name)?;
     }
     Ok(())
 }
@@ -107,33 +117,25 @@ fn kernels_agree_on_drawn_windows(rt: HostRuntime) -> Result<(), Fail> {
 fn kernels_agree_on_windows_of_three_values(rt: HostRuntime) -> Result<(), Fail> {
     let mut kernels = Kernels::new(rt.alloc())?;
     for start in 1..=4u64 {
+        let name = format!(in rt.alloc(); "window {start} of three values")?;
         let ties = window_of_three(rt.alloc(), start, &[-1, 0, 1])?;
-        assert!(rt; agree(&mut kernels, &ties));
+        agree(&mut kernels, &ties, &name)?;
         let extremes = window_of_three(rt.alloc(), start, &[-128, -127, 127])?;
-        assert!(rt; agree(&mut kernels, &extremes));
+        agree(&mut kernels, &extremes, &name)?;
     }
     Ok(())
 }
 
-/// Whether the kernels give this first byte and zeros for a window of zeros, in which all paths tie.
-fn zeros_give(
-    alloc: Global,
-    kernels: &mut Kernels,
-    line: LineCode,
-    first: u8,
-) -> Result<bool, AllocError> {
-    let window = vec![in alloc; 0i8; WINDOW_SYMBOLS]?;
-    let mut expected = [0; BLOCK_BYTES];
-    expected[0] = first;
-    Ok(kernels.bytes_of(line, &window) == Some(expected))
-}
-
+/// All paths tie in a window of zeros.
 #[test]
 fn least_levels_win_where_all_paths_tie(rt: HostRuntime) -> Result<(), Fail> {
     let mut kernels = Kernels::new(rt.alloc())?;
+    let window = vec![in rt.alloc(); 0i8; WINDOW_SYMBOLS]?;
     for line in LINES {
-        let first = if line.marks { 0x80 } else { 0 };
-        assert!(rt; zeros_give(rt.alloc(), &mut kernels, line, first)?);
+        let mut expected = [0; BLOCK_BYTES];
+        expected[0] = if line.marks { 0x80 } else { 0 };
+        let came = kernels.bytes_of(line, &window);
+        assert!(rt; came == Some(expected), "marks {}: {came:?}", line.marks);
     }
     Ok(())
 }

@@ -123,9 +123,16 @@ fn a_frame_of_each_line_code_is_restored(rt: HostRuntime) -> Result<(), Fail> {
     let alloc = rt.alloc();
     for line in LINES {
         let mut stream = coded_frames(alloc, line, 1)?;
-        assert!(rt; is_restored(alloc, line, &stream, true)?);
+        let LineCode { marks, inverted } = line;
+        assert!(rt;
+            is_restored(alloc, line, &stream, true)?,
+            "marks {marks}, {inverted}"
+        );
         turn(&mut stream);
-        assert!(rt; is_restored(alloc, line, &stream, false)?);
+        assert!(rt;
+            is_restored(alloc, line, &stream, false)?,
+            "turned, marks {marks}, {inverted}"
+        );
     }
     Ok(())
 }
@@ -142,7 +149,11 @@ fn frames_are_found_under_their_own_line_code_alone(rt: HostRuntime) -> Result<(
     for sent in 0..4usize {
         for sought in 0..4usize {
             let count = restored_frames(alloc, LINES[sent], LINES[sought])?;
-            assert!(rt; count == if sent == sought { 4 } else { 0 });
+            let wanted = if sent == sought { 4 } else { 0 };
+            assert!(rt;
+                count == wanted,
+                "sent {sent}, sought {sought}: {count} frames"
+            );
         }
     }
     Ok(())

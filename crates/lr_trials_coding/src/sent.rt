@@ -12,56 +12,41 @@ const EIGHT: [u64; 8] = [0, 16384, 32768, 49152, 65536, 81920, 98304, 114688];
 /// The frames but for the fifth one.
 const WITHOUT_FIFTH: [u64; 7] = [0, 16384, 32768, 49152, 81920, 98304, 114688];
 
-/// What happens to the markers of the coded frames, and which frames are found then.
-struct Case {
-    /// The hits that are left to the markers of frames 0 to 4.
-    hits: [u8; 5],
-    places: &'static [u64],
-}
+/// The hits that are left to the markers of frames 0 to 4, and which frames are found then.
+struct Case([u8; 5], &'static [u64]);
 
 static MARKERS: [Case; 6] = [
-    Case {
-        hits: [52, 52, 52, 52, 52],
-        places: &EIGHT,
-    },
-    Case {
-        hits: [52, 0, 0, 0, 52],
-        places: &EIGHT,
-    },
-    Case {
-        hits: [45, 52, 52, 52, 52],
-        places: &EIGHT,
-    },
-    Case {
-        hits: [44, 52, 52, 52, 52],
-        places: &[16384, 32768, 49152, 65536, 81920, 98304, 114688],
-    },
-    Case {
-        hits: [52, 36, 36, 36, 36],
-        places: &WITHOUT_FIFTH,
-    },
-    Case {
-        hits: [52, 36, 36, 36, 37],
-        places: &EIGHT,
-    },
+    Case([52, 52, 52, 52, 52], &EIGHT),
+    Case([52, 0, 0, 0, 52], &EIGHT),
+    Case([45, 52, 52, 52, 52], &EIGHT),
+    Case(
+        [44, 52, 52, 52, 52],
+        &[16384, 32768, 49152, 65536, 81920, 98304, 114688],
+    ),
+    Case([52, 36, 36, 36, 36], &WITHOUT_FIFTH),
+    Case([52, 36, 36, 36, 37], &EIGHT),
 ];
 
 /// Whether just these frames are found, at both polarities.
 fn finds_case(alloc: Global, case: &Case) -> Result<bool, NoMemory> {
+    let Case(hits, places) = case;
     let mut stream = sent_symbols(alloc)?;
     for number in 0..5usize {
-        leave_hits(&mut stream, number, case.hits[number]);
+        leave_hits(&mut stream, number, hits[number]);
     }
-    let upright = finds(alloc, &stream, LOCK_SYMBOLS, true, case.places)?;
+    let upright = finds(alloc, &stream, LOCK_SYMBOLS, true, places)?;
     turn(&mut stream);
-    Ok(upright && finds(alloc, &stream, LOCK_SYMBOLS, false, case.places)?)
+    Ok(upright && finds(alloc, &stream, LOCK_SYMBOLS, false, places)?)
 }
 
 #[test]
 fn markers_are_found_and_missed(rt: HostRuntime) -> Result<(), Fail> {
     for case in &MARKERS {
-        let hits = case.hits;
-        assert!(rt; finds_case(rt.alloc(), case)?, "with the hits {hits:?}");
+        let hits = case.0;
+        assert!(rt;
+            finds_case(rt.alloc(), case)?,
+            "other frames are found with the hits {hits:?}"
+        );
     }
     Ok(())
 }

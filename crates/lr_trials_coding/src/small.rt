@@ -6,7 +6,7 @@ use lr_trellis::{TrellisScratch, nearest_bits};
 use std::test::Fail;
 
 /// Which values are drawn.
-#[derive(Clone, Copy)]
+#[derive(Clone, Copy, Debug)]
 enum Values {
     All,
     Two,
@@ -42,22 +42,26 @@ fn byte_of(bits: &[bool; 8]) -> u8 {
     byte
 }
 
-/// Whether ten windows have these nearest paths.
-fn all_agree(
+/// That ten windows have these nearest paths. Where one has another, the failure says which, and both.
+fn agree(
     scratch: &mut TrellisScratch,
     line: LineCode,
     values: Values,
     expected: &[u8; 10],
-) -> bool {
+) -> Result<(), Fail> {
     for place in 0..10usize {
         let window = small_window(place as u64 + 1, values);
         let mut bits = [false; 8];
         nearest_bits(line, &window, scratch, &mut bits);
-        if byte_of(&bits) != expected[place] {
-            return false;
+        let (came, wanted) = (byte_of(&bits), expected[place]);
+        if came != wanted {
+            let LineCode { marks, inverted } = line;
+            return Err(Fail::new(format_args!(
+                "window {place} of {values:?}, marks {marks}, inverted {inverted}: {came}, not {wanted}"
+            )));
         }
     }
-    true
+    Ok(())
 }
 
 const ALL: [[u8; 10]; 4] = [
@@ -85,7 +89,7 @@ const THREE: [[u8; 10]; 4] = [
 fn the_least_of_all_lists_is_found(rt: HostRuntime) -> Result<(), Fail> {
     let mut scratch = TrellisScratch::new(rt.alloc())?;
     for place in 0..4usize {
-        assert!(rt; all_agree(&mut scratch, LINES[place], Values::All, &ALL[place]));
+        agree(&mut scratch, LINES[place], Values::All, &ALL[place])?;
     }
     Ok(())
 }
@@ -94,8 +98,8 @@ fn the_least_of_all_lists_is_found(rt: HostRuntime) -> Result<(), Fail> {
 fn ties_go_to_the_least_levels(rt: HostRuntime) -> Result<(), Fail> {
     let mut scratch = TrellisScratch::new(rt.alloc())?;
     for place in 0..4usize {
-        assert!(rt; all_agree(&mut scratch, LINES[place], Values::Two, &TWO[place]));
-        assert!(rt; all_agree(&mut scratch, LINES[place], Values::Three, &THREE[place]));
+        agree(&mut scratch, LINES[place], Values::Two, &TWO[place])?;
+        agree(&mut scratch, LINES[place], Values::Three, &THREE[place])?;
     }
     Ok(())
 }

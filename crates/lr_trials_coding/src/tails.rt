@@ -49,21 +49,19 @@ fn coded_after(state: u8) -> u64 {
     symbols
 }
 
-/// Whether the marker ends in the same 52 symbols after each state.
-fn every_state_has_the_tail() -> bool {
-    for state in 0..64u8 {
-        if last_52(coded_after(state)) != TAILS[0] {
-            return false;
-        }
-    }
-    true
-}
-
 #[test]
 fn the_marker_is_coded(rt: HostRuntime) {
     for place in 0..4usize {
-        assert!(rt; number_of(&marker_tail(LINES[place])) == TAILS[place]);
-        assert!(rt; last_52(coded_marker(LINES[place])) == TAILS[place]);
+        let tail = number_of(&marker_tail(LINES[place]));
+        assert!(rt;
+            tail == TAILS[place],
+            "line code {place}: the tail is {tail:x}"
+        );
+        let coded = last_52(coded_marker(LINES[place]));
+        assert!(rt;
+            coded == TAILS[place],
+            "line code {place}: the marker ends in {coded:x}"
+        );
     }
     assert!(rt; coded_marker(LINES[0]) == 0x56081C971AA73D3E);
 }
@@ -72,5 +70,8 @@ fn the_marker_is_coded(rt: HostRuntime) {
 fn the_standards_tail_comes_after_every_state(rt: HostRuntime) {
     assert!(rt; number_of(&MARKER_TAIL) == TAILS[0]);
     assert!(rt; coded_after(0) == 0x56081C971AA73D3E);
-    assert!(rt; every_state_has_the_tail());
+    for state in 0..64u8 {
+        let tail = last_52(coded_after(state));
+        assert!(rt; tail == TAILS[0], "after the state {state}: {tail:x}");
+    }
 }

@@ -32,7 +32,7 @@ pub(crate) struct Case(
 
 /// The old shelf, on which its file was received again. It ends at 129.
 pub(crate) fn with_two(alloc: Global) -> Result<MemDisk, Fail> {
-    let mut made = disk(alloc, OLD_SHELF, 1_000)?;
+    let mut made = disk(alloc, &OLD_SHELF, 1_000)?;
     add(alloc, &mut made, file_of(alloc, &[&OLD_SHELF[33..59]])?)?;
     Ok(made)
 }
@@ -63,7 +63,7 @@ fn started(alloc: Global, start: Start) -> Result<MemDisk, Fail> {
         Start::Two => return with_two(alloc),
         Start::WithoutFirst => return without_first(alloc),
         Start::Old => OLD_SHELF.to_vec(alloc)?,
-        Start::Byte(place, byte) => bytes_with(alloc, OLD_SHELF, place, byte)?,
+        Start::Byte(place, byte) => bytes_with(alloc, &OLD_SHELF, place, byte)?,
         Start::Capacity(capacity) => with_capacity(alloc, capacity, &OLD_SHELF[19..])?,
     };
     Ok(disk(alloc, &bytes, 1_000)?)

@@ -172,7 +172,7 @@ fn what_is_refused_leaves_the_shelf(rt: HostRuntime) -> Result<(), Fail> {
     let alloc = rt.alloc();
     assert!(rt; is_refused(alloc, b"no shelf", 6)?);
     // A text is no image.
-    assert!(rt; is_refused(alloc, OLD_SHELF, 8)?);
+    assert!(rt; is_refused(alloc, &OLD_SHELF, 8)?);
     // Another byte of the image has another checksum.
     assert!(rt; puts_with(alloc, 1_000, 80, 12, "")?);
     assert!(rt; missing_is_refused(alloc)?);

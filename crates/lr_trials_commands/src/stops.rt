@@ -48,7 +48,7 @@ fn stopped_at(alloc: Global, after: u64) -> Result<bool, Fail> {
 }
 
 fn extracts_into(alloc: Global, room: usize, status: u8) -> Result<bool, Fail> {
-    let mut made = disk(alloc, OLD_SHELF, 1_000)?;
+    let mut made = disk(alloc, &OLD_SHELF, 1_000)?;
     let put = &OLD_SHELF[43..43 + room.min(16)];
     ends(
         alloc,

@@ -25,7 +25,7 @@ static STEPS: [Step; 8] = [
 #[test]
 fn a_shelf_of_version_1_goes_on(rt: HostRuntime) -> Result<(), Fail> {
     let alloc = rt.alloc();
-    let left = hold_on(alloc, disk(alloc, OLD_SHELF, 400)?, &STEPS, 0)?;
+    let left = hold_on(alloc, disk(alloc, &OLD_SHELF, 400)?, &STEPS, 0)?;
     let bytes = left.as_slice();
     assert!(rt; is_text("the front", &bytes[..bytes.len().min(61)], &OLD_SHELF[..61])?);
     Ok(())

@@ -1,5 +1,6 @@
 //! Images of files, the faults of files that have none, and their PGM.
 
+use crate::images::Wanted::{Fault, Picture};
 use lr_bits::{Bytes, Lengths, MissionFile, NoMemory};
 use lr_headers::HeaderFault;
 use lr_image::{Image, ImageFault, image_of, pgm_head, pgm_line};
@@ -50,7 +51,7 @@ pub(crate) const FIRST: Body = Body::Bytes(&[0x00, 0x58]);
 pub(crate) const SECOND: Body = Body::Bytes(&[0x40, 0xAA, 0xFA, 0x00]);
 
 /// Their image.
-pub(crate) const LINES_OF_FIVE: Wanted = Wanted::Picture(
+pub(crate) const LINES_OF_FIVE: Wanted = Picture(
     b"P5\n8 2\n255\n\x05\x05\x05\x05\x05\x05\x05\x05\x05\x06\x04\x05\x05\x05\x05\x05",
 );
 
@@ -150,17 +151,17 @@ fn is_wanted(
     wanted: Wanted,
 ) -> Result<(), Fail> {
     match (outcome, wanted) {
-        (Ok(image), Wanted::Picture(picture)) => {
+        (Ok(image), Picture(picture)) => {
             let text = pgm_of(alloc, &image)?;
             if *text.as_slice() == *picture {
                 return Ok(());
             }
             differs(case, text.as_slice(), picture)
         }
-        (Err(fault), Wanted::Fault(other)) if told(fault) == told(other) => Ok(()),
-        (Err(fault), Wanted::Fault(other)) => differs(case, told(fault), told(other)),
-        (Ok(_), Wanted::Fault(fault)) => differs(case, "an image", told(fault)),
-        (Err(fault), Wanted::Picture(_)) => differs(case, told(fault), "an image"),
+        (Err(fault), Fault(other)) if told(fault) == told(other) => Ok(()),
+        (Err(fault), Fault(other)) => differs(case, told(fault), told(other)),
+        (Ok(_), Fault(fault)) => differs(case, "an image", told(fault)),
+        (Err(fault), Picture(_)) => differs(case, told(fault), "an image"),
     }
 }
 
@@ -181,7 +182,7 @@ fn are_faulty(alloc: Global, cases: &[Faulty]) -> Result<(), Fail> {
     for Faulty(place, byte, fault) in cases {
         let bodies = [Body::Coded(*place, *byte), FIRST, SECOND];
         let file = file_of(alloc, &bodies)?.ok_or("no file")?;
-        is_wanted(alloc, *place, image_of(alloc, &file), Wanted::Fault(*fault))?;
+        is_wanted(alloc, *place, image_of(alloc, &file), Fault(*fault))?;
     }
     Ok(())
 }
@@ -220,17 +221,14 @@ const ENCRYPTED: Body = Body::Bytes(&[
 static ORDER: [Case; 3] = [
     Case(
         &[LARGE],
-        Wanted::Fault(ImageFault::TooLarge {
+        Fault(ImageFault::TooLarge {
             pixels: 0xFF08 * 0xFF02,
         }),
     ),
-    Case(
-        &[ENCRYPTED, FIRST, SECOND],
-        Wanted::Fault(ImageFault::Encrypted),
-    ),
+    Case(&[ENCRYPTED, FIRST, SECOND], Fault(ImageFault::Encrypted)),
     Case(
         &[Body::Coded(10, 1), FIRST],
-        Wanted::Fault(ImageFault::Headers(HeaderFault::NotPrimary)),
+        Fault(ImageFault::Headers(HeaderFault::NotPrimary)),
     ),
 ];
 
@@ -245,13 +243,10 @@ const NOTHING: Body = Body::Bytes(&[]);
 /// One body is empty.
 static PIECES: [Case; 3] = [
     Case(&[JOINED, NOTHING, SECOND], LINES_OF_FIVE),
-    Case(
-        &[JOINED, NOTHING],
-        Wanted::Fault(ImageFault::Short { pixels: 8 }),
-    ),
+    Case(&[JOINED, NOTHING], Fault(ImageFault::Short { pixels: 8 })),
     Case(
         &[JOINED, NOTHING, Body::Bytes(&[0x40, 0xAA])],
-        Wanted::Fault(ImageFault::Rice {
+        Fault(ImageFault::Rice {
             piece: 1,
             fault: RiceFault::Ended { line: 0 },
         }),
@@ -271,11 +266,8 @@ const PLAIN_CUT: Body = Body::Bytes(&[
 ]);
 
 static TWELVE_BITS: [Case; 2] = [
-    Case(
-        &[PLAIN],
-        Wanted::Picture(b"P5\n2 1\n4095\n\x0A\xBC\x01\x23"),
-    ),
-    Case(&[PLAIN_CUT], Wanted::Fault(ImageFault::Short { pixels: 1 })),
+    Case(&[PLAIN], Picture(b"P5\n2 1\n4095\n\x0A\xBC\x01\x23")),
+    Case(&[PLAIN_CUT], Fault(ImageFault::Short { pixels: 1 })),
 ];
 
 #[test]

@@ -39,38 +39,26 @@ fn files_of(alloc: Global, packets: &[Piece]) -> Result<Vec<MissionFile>, NoMemo
     Ok(found)
 }
 
-/// Whether the file is of this channel and has bodies of these lengths, which are all digits in their order.
-fn is_of(file: &MissionFile, vc: u8, apid: u16, lengths: &[u16]) -> bool {
-    file.vc() == vc
-        && file.apid() == apid
-        && file.lengths() == lengths
-        && file.bytes() == DIGITS.as_slice()
-}
-
-/// A file: its channel and its application, and the lengths of its bodies.
+/// A file: its channel and its application, and the lengths of its bodies, which are all digits in their order.
 struct Found(u8, u16, &'static [u16]);
 
 /// Packets, and the files that they make up.
 struct Case(&'static [Piece], &'static [Found]);
 
-fn are_found(files: &[MissionFile], wanted: &[Found]) -> bool {
-    files.len() == wanted.len()
-        && files
-            .iter()
-            .zip(wanted)
-            .all(|(file, found)| is_of(file, found.0, found.1, found.2))
-}
-
-fn holds(alloc: Global, case: &Case) -> Result<bool, NoMemory> {
-    let files = files_of(alloc, case.0)?;
-    Ok(are_found(&files, case.1))
-}
-
-/// That the packets of each case make up their files.
+/// That the packets of each case make up their files. Where they don't, the failure says which, and what came.
 fn hold(alloc: Global, cases: &[Case]) -> Result<(), Fail> {
-    for (place, case) in cases.iter().enumerate() {
-        if !holds(alloc, case)? {
-            return Err(Fail::new(format_args!("case {place} makes up other files")));
+    for (place, Case(packets, wanted)) in cases.iter().enumerate() {
+        let files = files_of(alloc, packets)?;
+        let count = files.len();
+        if count != wanted.len() {
+            return Err(Fail::new(format_args!("case {place} makes up {count} files")));
+        }
+        for (file, Found(vc, apid, lengths)) in files.iter().zip(*wanted) {
+            let came = (file.vc(), file.apid(), file.lengths());
+            if came != (*vc, *apid, *lengths) || file.bytes() != DIGITS.as_slice() {
+                let bytes = file.bytes();
+                return Err(Fail::new(format_args!("case {place} gives {came:?} with {bytes:?}")));
+            }
         }
     }
     Ok(())

@@ -105,27 +105,25 @@ fn same(file: &MissionFile, other: &MissionFile) -> bool {
         && file.bytes() == other.bytes()
 }
 
-/// Whether these are the files that are drawn.
-fn are_drawn(alloc: Global, seed: u64, count: u8, found: &[Placed]) -> Result<bool, NoMemory> {
+/// That these are the files that are drawn.
+fn are_drawn(alloc: Global, seed: u64, count: u8, found: &[Placed]) -> Result<(), Fail> {
     let mut draws = Draws { state: seed };
-    if found.len() != usize::from(count) {
-        return Ok(false);
+    let files = found.len();
+    if files != usize::from(count) {
+        return Err(Fail::new(format_args!("list {seed}: {files} files, and not {count}")));
     }
-    for one in found {
-        match draws.file(alloc)? {
-            Some(file) => {
-                if !same(&one.file, &file) {
-                    return Ok(false);
-                }
-            }
-            None => return Ok(false),
+    for (place, one) in found.iter().enumerate() {
+        let file = draws.file(alloc)?.ok_or("no file is drawn")?;
+        if !same(&one.file, &file) {
+            let lengths = one.file.lengths();
+            return Err(Fail::new(format_args!("list {seed}: file {place} has {lengths:?}")));
         }
     }
-    Ok(true)
+    Ok(())
 }
 
-/// Sends the files that a generator draws, appends the checksums of their frames, and answers whether they are found.
-fn list_is_found(alloc: Global, seed: u64, sums: &mut Bytes) -> Result<bool, NoMemory> {
+/// Sends the files that a generator draws, and appends the checksums of their frames. They are found.
+fn list_is_found(alloc: Global, seed: u64, sums: &mut Bytes) -> Result<(), Fail> {
     let count = (seed % 5) as u8 + 1;
     let mut draws = Draws { state: seed };
     let mut uplink = Uplink::new(alloc, STANDARD)?;
@@ -139,21 +137,19 @@ fn list_is_found(alloc: Global, seed: u64, sums: &mut Bytes) -> Result<bool, NoM
     are_drawn(alloc, seed, count, &found)
 }
 
-/// Whether the files of `lists` generators are found, and the checksum of the checksums of all frames is this.
-fn lists_are(alloc: Global, first: u64, lists: u64, checksum: u16) -> Result<bool, NoMemory> {
+/// The checksum of the checksums of all frames of `lists` generators, whose files are found.
+fn checksum_of(alloc: Global, first: u64, lists: u64) -> Result<u16, Fail> {
     let mut sums = Bytes::new(alloc);
     for list in 0..lists {
-        if !list_is_found(alloc, first.wrapping_add(list), &mut sums)? {
-            return Ok(false);
-        }
+        list_is_found(alloc, first.wrapping_add(list), &mut sums)?;
     }
-    Ok(crc16(sums.as_slice()) == checksum)
+    Ok(crc16(sums.as_slice()))
 }
 
 #[test]
 fn drawn_files_are_sent_and_found(rt: HostRuntime) -> Result<(), Fail> {
-    assert!(rt; lists_are(rt.alloc(), 0, 10, 0xBA2D)?);
-    assert!(rt; lists_are(rt.alloc(), 10, 90, 0x0B3A)?);
-    assert!(rt; lists_are(rt.alloc(), 100, 100, 0xD26C)?);
+    assert_eq!(rt; checksum_of(rt.alloc(), 0, 10)?, 0xBA2D);
+    assert_eq!(rt; checksum_of(rt.alloc(), 10, 90)?, 0x0B3A);
+    assert_eq!(rt; checksum_of(rt.alloc(), 100, 100)?, 0xD26C);
     Ok(())
 }

@@ -1,11 +1,11 @@
 //! The items of a few streams, by their checksums.
 
-use lr_bits::{BLOCK_BYTES, FRAME_BYTES, FRAME_SYMBOLS, NoMemory, crc16};
+use lr_bits::{BLOCK_BYTES, FRAME_BYTES, FRAME_SYMBOLS, crc16};
 use lr_make::Maker;
 use std::test::Fail;
 
 /// What comes next of a stream.
-#[derive(Clone, Copy)]
+#[derive(Clone, Copy, Debug)]
 enum Item {
     /// A frame, a block or the symbols of a frame, each as a byte, with this checksum.
     Frame(u16),
@@ -36,63 +36,48 @@ pub(crate) fn checksum_of(symbols: &[i8; FRAME_SYMBOLS]) -> u16 {
     crc16(&bytes)
 }
 
-/// Whether the next frame has this checksum.
-fn frame_has(maker: &mut Maker, checksum: u16) -> Result<bool, NoMemory> {
-    let mut frame = [0u8; FRAME_BYTES];
-    maker.next_frame(&mut frame)?;
-    Ok(crc16(&frame) == checksum)
-}
-
-/// Whether the block of the next frame has this checksum.
-fn block_has(maker: &mut Maker, checksum: u16) -> Result<bool, NoMemory> {
-    let mut block = [0u8; BLOCK_BYTES];
-    maker.next_block(&mut block)?;
-    Ok(crc16(&block) == checksum)
-}
-
-/// Whether the symbols of the next frame have this checksum.
-fn symbols_have(maker: &mut Maker, checksum: u16) -> Result<bool, NoMemory> {
-    let mut symbols = [0i8; FRAME_SYMBOLS];
-    maker.next_symbols(&mut symbols)?;
-    Ok(checksum_of(&symbols) == checksum)
-}
-
-/// Whether the next frame begins with these bytes.
-fn frame_begins(maker: &mut Maker, bytes: &[u8; 24]) -> Result<bool, NoMemory> {
-    let mut frame = [0u8; FRAME_BYTES];
-    maker.next_frame(&mut frame)?;
-    Ok(&frame[..24] == bytes.as_slice())
-}
-
-fn is_next(maker: &mut Maker, item: &Item) -> Result<bool, NoMemory> {
-    match item {
-        Item::Frame(checksum) => frame_has(maker, *checksum),
-        Item::Block(checksum) => block_has(maker, *checksum),
-        Item::Symbols(checksum) => symbols_have(maker, *checksum),
-        Item::Begins(bytes) => frame_begins(maker, bytes),
+/// That this checksum came of an item.
+fn is_sum(item: &Item, came: u16, wanted: u16) -> Result<(), Fail> {
+    if came == wanted {
+        return Ok(());
     }
+    Err(Fail::new(format_args!("{item:?}: the checksum is {came}, and not {wanted}")))
 }
 
-/// The place of the first item that comes otherwise, if there is one.
-fn first_miss(stream: &Stream) -> Result<Option<usize>, NoMemory> {
-    let Stream(start, wrong, items) = stream;
-    let mut maker = Maker::new(*start, (*wrong).min(16))?;
-    for (place, item) in items.iter().enumerate() {
-        if !is_next(&mut maker, item)? {
-            return Ok(Some(place));
+/// That the next item of a stream is this one.
+fn is_next(maker: &mut Maker, item: &Item) -> Result<(), Fail> {
+    let mut frame = [0u8; FRAME_BYTES];
+    match item {
+        Item::Frame(checksum) => {
+            maker.next_frame(&mut frame)?;
+            is_sum(item, crc16(&frame), *checksum)
+        }
+        Item::Block(checksum) => {
+            let mut block = [0u8; BLOCK_BYTES];
+            maker.next_block(&mut block)?;
+            is_sum(item, crc16(&block), *checksum)
+        }
+        Item::Symbols(checksum) => {
+            let mut symbols = [0i8; FRAME_SYMBOLS];
+            maker.next_symbols(&mut symbols)?;
+            is_sum(item, checksum_of(&symbols), *checksum)
+        }
+        Item::Begins(bytes) => {
+            maker.next_frame(&mut frame)?;
+            if &frame[..24] == bytes.as_slice() {
+                return Ok(());
+            }
+            Err(Fail::new(format_args!("{item:?} begins {:?}", &frame[..24])))
         }
     }
-    Ok(None)
 }
 
-/// That each stream has its items.
+/// That each stream has its items. Where one hasn't, the failure has the item, and what came.
 fn hold(streams: &[Stream]) -> Result<(), Fail> {
-    for stream in streams {
-        if let Some(place) = first_miss(stream)? {
-            let Stream(start, wrong, _) = stream;
-            return Err(Fail::new(format_args!(
-                "item {place} of the stream of {start} with {wrong} wrong bytes is another one"
-            )));
+    for Stream(start, wrong, items) in streams {
+        let mut maker = Maker::new(*start, (*wrong).min(16))?;
+        for item in *items {
+            is_next(&mut maker, item)?;
         }
     }
     Ok(())

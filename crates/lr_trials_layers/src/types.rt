@@ -73,10 +73,8 @@ fn is_file_of_empty_bodies(alloc: Global, more: u32) -> Result<bool, NoMemory> {
     Ok(MissionFile::build(0, 0, lengths, bytes).is_some())
 }
 
-fn shows_its_parts(alloc: Global) -> Result<bool, NoMemory> {
-    let Some(file) = file(alloc, 5, 100, &[2, 24], &FILE)? else {
-        return Ok(false);
-    };
+fn shows_its_parts(alloc: Global) -> Result<bool, Fail> {
+    let file = file(alloc, 5, 100, &[2, 24], &FILE)?.ok_or("no file")?;
     if file.packets() != 2 {
         return Ok(false);
     }
@@ -87,46 +85,38 @@ fn shows_its_parts(alloc: Global) -> Result<bool, NoMemory> {
     Ok(numbers && bits && lengths && bytes)
 }
 
-fn head_is_read(alloc: Global) -> Result<bool, NoMemory> {
-    let Some(raw) = packet(alloc, 0, &DIGITS, &[])? else {
-        return Ok(false);
-    };
-    let read = head(&raw);
+/// A packet of channel 0, which has to be one.
+fn raw(alloc: Global, front: &[u8], back: &[u8]) -> Result<RawPacket, Fail> {
+    Ok(packet(alloc, 0, front, back)?.ok_or("no packet")?)
+}
+
+fn head_is_read(alloc: Global) -> Result<bool, Fail> {
+    let read = head(&raw(alloc, &DIGITS, &[])?);
     let plain = read.version == 0 && !read.kind && !read.secondary;
     Ok(plain && read.apid == 100 && read.flags == 3 && read.count == 0 && read.length == 11)
 }
 
-fn is_good(alloc: Global) -> Result<bool, NoMemory> {
-    let Some(raw) = packet(alloc, 0, &DIGITS, &[])? else {
-        return Ok(false);
-    };
-    Ok(match check(&raw) {
-        Ok(good) => {
-            let numbers = good.vc == 0 && good.apid == 100 && good.flags == 3 && good.count == 0;
-            numbers && good.body == b"123456789".as_slice()
-        }
-        Err(_) => false,
-    })
+fn is_good(alloc: Global) -> Result<bool, Fail> {
+    let raw = raw(alloc, &DIGITS, &[])?;
+    let good = check(&raw)?;
+    let numbers = good.vc == 0 && good.apid == 100 && good.flags == 3 && good.count == 0;
+    Ok(numbers && good.body == b"123456789".as_slice())
 }
 
-fn breaks_its_checksum(alloc: Global) -> Result<bool, NoMemory> {
-    let Some(raw) = packet(alloc, 0, &OTHER_CHECKSUM, &[])? else {
-        return Ok(false);
-    };
-    Ok(match check(&raw) {
-        Err(PacketFault::Crc { stored, computed }) => stored == 0x29B0 && computed == 0x29B1,
-        _ => false,
-    })
+fn breaks_its_checksum(alloc: Global) -> Result<bool, Fail> {
+    let raw = raw(alloc, &OTHER_CHECKSUM, &[])?;
+    Ok(matches!(
+        check(&raw),
+        Err(PacketFault::Crc {
+            stored: 0x29B0,
+            computed: 0x29B1
+        })
+    ))
 }
 
-fn is_idle(alloc: Global) -> Result<bool, NoMemory> {
-    let Some(raw) = packet(alloc, 0, &IDLE_HEAD, &ZEROS[..861])? else {
-        return Ok(false);
-    };
-    Ok(match check(&raw) {
-        Err(PacketFault::Idle) => true,
-        _ => false,
-    })
+fn is_idle(alloc: Global) -> Result<bool, Fail> {
+    let raw = raw(alloc, &IDLE_HEAD, &ZEROS[..861])?;
+    Ok(matches!(check(&raw), Err(PacketFault::Idle)))
 }
 
 #[test]

@@ -1,10 +1,9 @@
 //! How often the shelf asks its disk, and how many bytes it reads.
 use crate::counting::Counting;
 use crate::shared::{
-    add_first, append, check, discard, disk_of, empty, file, get, is_at, load, second, with_two,
+    add_first, append, at, check, discard, empty, file, get, load, second, with_two,
 };
 use lr_bits::{Origin, Placed};
-use lr_disk::MemDisk;
 use std::alloc::Global;
 use std::test::Fail;
 
@@ -17,15 +16,9 @@ const LONG_FILES: u64 = 12;
 /// How many short files there are.
 const SHORT_FILES: u64 = 1500;
 
-/// An empty shelf with this much room.
-fn roomy(alloc: Global, room: u64) -> Result<MemDisk, Fail> {
-    let small = empty(alloc, 1 << 30)?;
-    disk_of(alloc, small.as_slice(), room, 20_000)
-}
-
 /// A shelf of this many such files.
-fn many(alloc: Global, room: u64, files: u64, placed: &Placed) -> Result<Counting, Fail> {
-    let mut made = roomy(alloc, room)?;
+fn many(alloc: Global, files: u64, placed: &Placed) -> Result<Counting, Fail> {
+    let mut made = empty(alloc, 1 << 30)?;
     let mut shelf = load(alloc, &mut made)?;
     for _ in 0..files {
         append(&mut shelf, &mut made, placed)?;
@@ -70,17 +63,17 @@ fn long_records_are_passed_over(alloc: Global) -> Result<bool, Fail> {
         corrected: 0,
     };
     let file = file(alloc, 1, 2, 2, &[0xA5; 33_000])?;
-    let mut made = many(alloc, 1_000_000, LONG_FILES, &Placed { file, origin })?;
+    let mut made = many(alloc, LONG_FILES, &Placed { file, origin })?;
     let shelf = load(alloc, &mut made)?;
-    let ended = is_at(&shelf, LONG_FILES, 20 + LONG_FILES * 66_043, 1 << 30);
+    let ended = at(&shelf) == (LONG_FILES, 20 + LONG_FILES * 66_043, 1 << 30);
     Ok(ended && made.bytes <= 20 + (LONG_FILES + 1) * PAGE_BYTES && made.writes == 0)
 }
 
 /// 1,500 records of 50 bytes are read in a few reads, each byte about once.
 fn short_records_are_read_ahead(alloc: Global) -> Result<bool, Fail> {
-    let mut made = many(alloc, 200_000, SHORT_FILES, &second(alloc)?)?;
+    let mut made = many(alloc, SHORT_FILES, &second(alloc)?)?;
     let shelf = load(alloc, &mut made)?;
-    let ended = is_at(&shelf, SHORT_FILES, 20 + SHORT_FILES * 51, 1 << 30);
+    let ended = at(&shelf) == (SHORT_FILES, 20 + SHORT_FILES * 51, 1 << 30);
     Ok(ended && made.reads <= 7 && made.bytes <= 80_000 && made.writes == 0)
 }
 

@@ -1,5 +1,5 @@
 //! What `init` makes, and what it leaves alone.
-use crate::shared::{disk, empty, init, is_at, is_not_empty, load};
+use crate::shared::{at, disk, empty, init, is_not_empty, load};
 use lr_shelf_format::{header_of, old_header_of};
 use std::alloc::Global;
 use std::test::Fail;
@@ -21,7 +21,7 @@ fn is_kept(alloc: Global, bytes: &[u8]) -> Result<bool, Fail> {
 fn is_loaded_empty(alloc: Global) -> Result<bool, Fail> {
     let mut made = empty(alloc, 1 << 40)?;
     let shelf = load(alloc, &mut made)?;
-    Ok(is_at(&shelf, 0, 20, 1 << 40))
+    Ok(at(&shelf) == (0, 20, 1 << 40))
 }
 
 #[test]

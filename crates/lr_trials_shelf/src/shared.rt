@@ -3,11 +3,9 @@ use lr_bits::{Bytes, Lengths, MissionFile, Origin, Placed};
 use lr_disk::{Disk, MemDisk};
 use lr_shelf::{Shelf, ShelfError, Stored};
 use lr_shelf_format::{LEAST_CAPACITY, MOST_CAPACITY};
+use lr_trials_support::bytes_with;
 use std::alloc::Global;
 use std::test::Fail;
-
-/// The room of a test's disk, in bytes.
-const ROOM: u64 = 100_000;
 
 /// The body of the first file. That of the second is its first ten bytes.
 pub(crate) static BODY: [u8; 26] = [
@@ -55,18 +53,9 @@ pub(crate) fn second(alloc: Global) -> Result<Placed, Fail> {
     Ok(Placed { file, origin })
 }
 
-/// A disk of these bytes, with this much room and this many calls before it fails.
-pub(crate) fn disk_of(alloc: Global, bytes: &[u8], room: u64, calls: u64) -> Result<MemDisk, Fail> {
-    let bytes = bytes.to_vec(alloc)?;
-    if bytes.len() as u64 > room {
-        return Err(Fail::from("too many bytes"));
-    }
-    Ok(MemDisk::of(alloc, bytes, room, calls)?)
-}
-
 /// A disk of these bytes, with room and calls enough.
 pub(crate) fn disk(alloc: Global, bytes: &[u8]) -> Result<MemDisk, Fail> {
-    disk_of(alloc, bytes, ROOM, 1000)
+    Ok(lr_trials_support::disk(alloc, bytes, 20_000)?)
 }
 
 /// An empty shelf of this capacity.
@@ -94,11 +83,7 @@ pub(crate) fn fill<D: Disk>(alloc: Global, made: &mut D) -> Result<(), Fail> {
 /// The same, with one byte changed.
 pub(crate) fn with_byte(alloc: Global, place: usize, byte: u8) -> Result<MemDisk, Fail> {
     let whole = with_two(alloc)?;
-    let mut bytes = whole.as_slice().to_vec(alloc)?;
-    if let Some(one) = bytes.get_mut(place) {
-        *one = byte;
-    }
-    disk(alloc, &bytes)
+    disk(alloc, &bytes_with(alloc, whole.as_slice(), place, byte)?)
 }
 
 // ---- calls
@@ -192,9 +177,9 @@ pub(crate) fn is_not_empty(answer: Result<(), ShelfError>, size: u64) -> bool {
     matches!(answer, Err(ShelfError::NotEmpty { length }) if length == size)
 }
 
-/// What a shelf says of itself.
-pub(crate) fn is_at(shelf: &Shelf, files: u64, end: u64, capacity: u64) -> bool {
-    shelf.len() == files && shelf.end() == end && shelf.capacity() == capacity
+/// What a shelf says of itself: how many files it has, where it ends, and its capacity.
+pub(crate) fn at(shelf: &Shelf) -> (u64, u64, u64) {
+    (shelf.len(), shelf.end(), shelf.capacity())
 }
 
 pub(crate) fn is_same(one: &MissionFile, other: &MissionFile) -> bool {

@@ -1,7 +1,7 @@
 //! Stops inside calls, and calls that fail.
 use crate::shared::{
-    add_first, add_second, append, check, discard, disk, empty, get, holds_first, holds_two, init,
-    is_at, is_disk, is_failed, is_not_empty, load, second,
+    add_first, add_second, append, at, check, discard, disk, empty, get, holds_first, holds_two,
+    init, is_disk, is_failed, is_not_empty, load, second,
 };
 use crate::tables::{Answer, Case, Start, Step, Which, hold};
 use lr_bits::Placed;
@@ -53,7 +53,7 @@ fn holds_one_or_two(alloc: Global, made: &mut MemDisk) -> Result<bool, Fail> {
     if shelf.len() == 2 {
         return holds_two(alloc, made);
     }
-    Ok(is_at(&shelf, 1, 87, 1000) && holds_first(alloc, &mut shelf, made, 0)?)
+    Ok(at(&shelf) == (1, 87, 1000) && holds_first(alloc, &mut shelf, made, 0)?)
 }
 
 /// Whether each stop inside these calls leaves one of both.
@@ -71,7 +71,7 @@ fn stops_are_harmless(alloc: Global, kind: u8) -> Result<bool, Fail> {
 /// Whether a shelf of one file whose last gate is torn stands as it was, and is no place for a new shelf.
 fn is_kept(shelf: &Shelf, left: &mut MemDisk, torn: &[u8]) -> bool {
     torn.get(86).copied() == Some(0x7F)
-        && is_at(shelf, 1, 87, 1000)
+        && at(shelf) == (1, 87, 1000)
         && is_not_empty(init(left, 1000), 138)
         && left.as_slice() == torn
 }

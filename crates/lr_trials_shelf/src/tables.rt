@@ -1,12 +1,13 @@
 //! Calls of a shelf, one after another over one disk, as tables, and what they must answer.
 use crate::shared::{
-    append, check, discard, disk, empty, file, first, get, holds, is_at, is_same, load, second,
+    append, at, check, discard, disk, empty, file, first, get, holds, is_same, load, second,
     with_byte, with_two,
 };
 use lr_bits::{Origin, Placed};
 use lr_disk::MemDisk;
 use lr_shelf::{Shelf, ShelfError};
 use lr_shelf_format::old_header_of;
+use lr_trials_support::{OLD_SHELF, is_number, is_text};
 use std::alloc::Global;
 use std::test::Fail;
 
@@ -36,7 +37,7 @@ pub(crate) enum Which {
 }
 
 /// What a call answers.
-#[derive(Clone, Copy)]
+#[derive(Clone, Copy, Debug)]
 pub(crate) enum Answer {
     Done,
     /// It's done, with this number.
@@ -85,14 +86,6 @@ pub(crate) struct Case(
 
 /// Where the last gate of the shelf of both files stands.
 const LAST_GATE: usize = 137;
-
-/// A shelf of version 1 and capacity 200, as a program of version 1 wrote it: one file of 26 bytes, which declares 136
-/// bits and has 128.
-const OLD_SHELF: [u8; 62] = [
-    0x5A, 0x4C, 0x52, 0x53, 0x48, 0x45, 0x4C, 0x46, 1, 0, 0, 0, 0, 0, 0, 0, 0xC8, 0xB9, 0x71, 1, 0,
-    0, 0x64, 0, 0, 0, 1, 0, 0, 0, 0x1A, 0, 0x1A, 0, 7, 0, 0, 0, 0, 0, 0, 0, 0x88, 0, 0, 0x10, 2, 0,
-    0, 0, 0x10, 0, 0, 0, 0, 0, 0, 0, 0, 0x8B, 0xCA, 0,
-];
 
 pub(crate) const OLD: Start = Start::Bytes(&OLD_SHELF);
 
@@ -163,123 +156,126 @@ fn is_refusal(error: ShelfError, wanted: Answer) -> bool {
     }
 }
 
-/// Whether a call with no number answers this.
-fn is_answer<T: Drop>(answer: Result<T, ShelfError>, wanted: Answer) -> bool {
+/// Which step of a table it is: the places of its case and of the step in it, where the load is before the first one.
+#[derive(Clone, Copy, Debug)]
+enum At {
+    Load(usize),
+    Step(usize, usize),
+}
+
+/// That a call with no number answers this. Where it doesn't, the failure says at which step, and what came.
+fn is_answer<T: Drop>(at: At, answer: Result<T, ShelfError>, wanted: Answer) -> Result<(), Fail> {
     match answer {
-        Ok(_) => matches!(wanted, Answer::Done),
-        Err(error) => is_refusal(error, wanted),
+        Ok(_) if matches!(wanted, Answer::Done) => Ok(()),
+        Ok(_) => Err(Fail::new(format_args!("{at:?}: it is done, and not {wanted:?}"))),
+        Err(error) if is_refusal(error, wanted) => Ok(()),
+        Err(error) => Err(Fail::new(format_args!("{at:?}: came {error:?}, and not {wanted:?}"))),
     }
+}
+
+/// That this holds of a step. Where it doesn't, the failure says at which step.
+fn is_so(at: At, holds: bool, what: &str) -> Result<(), Fail> {
+    if holds {
+        return Ok(());
+    }
+    Err(Fail::new(format_args!("{at:?}: {what} isn't there")))
 }
 
 fn appends(
     alloc: Global,
+    at: At,
     shelf: &mut Shelf,
     made: &mut MemDisk,
-    which: Which,
-    wanted: Answer,
-) -> Result<bool, Fail> {
-    let file = placed(alloc, which)?;
-    Ok(match (append(shelf, made, &file), wanted) {
-        (Ok(number), Answer::Number(other)) => number == other,
-        (answer, wanted) => is_answer(answer, wanted),
-    })
+    step: (Which, Answer),
+) -> Result<(), Fail> {
+    let file = placed(alloc, step.0)?;
+    match (append(shelf, made, &file), step.1) {
+        (Ok(came), Answer::Number(number)) => {
+            is_number(format_args!("{at:?}: the file"), came, number)?;
+            Ok(())
+        }
+        (answer, wanted) => is_answer(at, answer, wanted),
+    }
 }
 
-fn is_held(
-    alloc: Global,
-    shelf: &mut Shelf,
-    made: &mut MemDisk,
-    number: u64,
-    which: Which,
-) -> Result<bool, Fail> {
-    let file = placed(alloc, which)?;
-    Ok(holds(shelf, made, number, &file))
-}
-
-fn is_held_old(
-    alloc: Global,
-    shelf: &mut Shelf,
-    made: &mut MemDisk,
-    number: u64,
-    which: Which,
-) -> Result<bool, Fail> {
-    let file = placed(alloc, which)?;
-    Ok(match get(shelf, made, number) {
+fn is_held_old(shelf: &mut Shelf, made: &mut MemDisk, number: u64, file: &Placed) -> bool {
+    match get(shelf, made, number) {
         Ok(stored) => is_same(&stored.file, &file.file) && stored.origin.is_none(),
         Err(_) => false,
-    })
+    }
 }
 
-/// Whether a step is as it must be.
+/// That a step is as it must be.
 fn step_holds(
     alloc: Global,
+    place: At,
     shelf: &mut Shelf,
     made: &mut MemDisk,
     before: &[u8],
     step: Step,
-) -> Result<bool, Fail> {
+) -> Result<(), Fail> {
     match step {
-        Step::Append(which, answer) => appends(alloc, shelf, made, which, answer),
-        Step::Discard(number, answer) => Ok(is_answer(discard(shelf, made, number), answer)),
-        Step::Get(number, answer) => Ok(is_answer(get(shelf, made, number), answer)),
-        Step::Check(number, answer) => Ok(is_answer(check(shelf, made, number), answer)),
-        Step::Load => {
-            *shelf = load(alloc, made)?;
-            Ok(true)
+        Step::Append(which, answer) => appends(alloc, place, shelf, made, (which, answer))?,
+        Step::Discard(number, answer) => is_answer(place, discard(shelf, made, number), answer)?,
+        Step::Get(number, answer) => is_answer(place, get(shelf, made, number), answer)?,
+        Step::Check(number, answer) => is_answer(place, check(shelf, made, number), answer)?,
+        Step::Load => *shelf = load(alloc, made)?,
+        Step::Fails => made.fail_at(0),
+        Step::Holds(number, which) => {
+            let file = placed(alloc, which)?;
+            is_so(place, holds(shelf, made, number, &file), "the file")?;
         }
-        Step::Fails => {
-            made.fail_at(0);
-            Ok(true)
+        Step::HoldsOld(number, which) => {
+            let file = placed(alloc, which)?;
+            is_so(
+                place,
+                is_held_old(shelf, made, number, &file),
+                "the old file",
+            )?;
         }
-        Step::Holds(number, which) => is_held(alloc, shelf, made, number, which),
-        Step::HoldsOld(number, which) => is_held_old(alloc, shelf, made, number, which),
-        Step::At(files, end, capacity) => Ok(is_at(shelf, files, end, capacity)),
-        Step::Length(length) => Ok(made.as_slice().len() == length),
-        Step::Begins(count) => Ok(made.as_slice().get(..count) == before.get(..count)),
+        Step::At(files, end, capacity) => {
+            let (came, wanted) = (at(shelf), (files, end, capacity));
+            if came != wanted {
+                return Err(Fail::new(format_args!("{place:?}: {came:?}, and not {wanted:?}")));
+            }
+        }
+        Step::Length(length) => {
+            let came = made.as_slice().len() as u64;
+            is_number(format_args!("{place:?}: the length"), came, length as u64)?;
+        }
+        Step::Begins(count) => {
+            let count = count.min(before.len()).min(made.as_slice().len());
+            let front = &made.as_slice()[..count];
+            is_text(
+                format_args!("{place:?}: the front"),
+                front,
+                &before[..count],
+            )?;
+        }
     }
+    Ok(())
 }
 
-/// The place of the first step that isn't as it must be, if there is one.
-fn first_miss(
-    alloc: Global,
-    shelf: &mut Shelf,
-    made: &mut MemDisk,
-    before: &[u8],
-    steps: &[Step],
-) -> Result<Option<usize>, Fail> {
-    for (place, step) in steps.iter().enumerate() {
-        if !step_holds(alloc, shelf, made, before, *step)? {
-            return Ok(Some(place));
-        }
-    }
-    Ok(None)
-}
-
-/// The same of a case, where its load answers what it must; 1,000 where it doesn't.
-fn missed(alloc: Global, case: &Case) -> Result<Option<usize>, Fail> {
+/// That the load and each step of a case are as they must be.
+fn case_holds(alloc: Global, number: usize, case: &Case) -> Result<(), Fail> {
     let Case(start, answer, steps) = case;
     let mut made = started(alloc, *start)?;
     let before = made.as_slice().to_vec(alloc)?;
-    match load(alloc, &mut made) {
-        Ok(mut shelf) if matches!(answer, Answer::Done) => {
-            first_miss(alloc, &mut shelf, &mut made, &before, steps)
-        }
-        loaded => Ok(if is_answer(loaded, *answer) {
-            None
-        } else {
-            Some(1_000)
-        }),
+    let mut shelf = match load(alloc, &mut made) {
+        Ok(shelf) if matches!(answer, Answer::Done) => shelf,
+        loaded => return is_answer(At::Load(number), loaded, *answer),
+    };
+    for (place, step) in steps.iter().enumerate() {
+        let at = At::Step(number, place);
+        step_holds(alloc, at, &mut shelf, &mut made, &before, *step)?;
     }
+    Ok(())
 }
 
-/// That each step of each case is as it must be. Where one isn't, the failure says which.
+/// That each step of each case is as it must be. Where one isn't, the failure says which, and what came.
 pub(crate) fn hold(alloc: Global, cases: &[Case]) -> Result<(), Fail> {
     for (number, case) in cases.iter().enumerate() {
-        if let Some(place) = missed(alloc, case)? {
-            return Err(Fail::new(format_args!(
-                "step {place} of case {number} answers something else (1,000 is the load)"
-            )));
-        }
+        case_holds(alloc, number, case)?;
     }
     Ok(())
 }

@@ -21,6 +21,8 @@ mod listed;
 #[cfg(test)]
 mod packets;
 #[cfg(test)]
+mod read;
+#[cfg(test)]
 mod receive;
 #[cfg(test)]
 mod repacks;

@@ -34,7 +34,7 @@ fn symbols_of(
     is_number(
         words,
         symbols.len() as u64,
-        frames as u64 * FRAME_SYMBOLS as u64,
+        frames.saturating_mul(FRAME_SYMBOLS) as u64,
     )?;
     Ok(symbols)
 }
