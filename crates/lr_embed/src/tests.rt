@@ -26,7 +26,13 @@ struct Handed {
 const NEW: &[u8] = b"\x5ALRSHELF\x02\x00\x00\x00\x00\x00\x00\x00\x64\xE0\x53\x00";
 
 /// Runs these words over this shelf, with so many bytes of room for what is put and for the shelf.
-fn run_with(alloc: Global, words: &[u8], shelf: &[u8], out_room: usize, shelf_room: usize) -> Handed {
+fn run_with(
+    alloc: Global,
+    words: &[u8],
+    shelf: &[u8],
+    out_room: usize,
+    shelf_room: usize,
+) -> Handed {
     let mut counts = Counts {
         out: 1,
         err: 1,
@@ -80,7 +86,8 @@ fn a_shelf_is_made(rt: HostRuntime) -> Result<(), Fail> {
 fn a_shelf_is_read(rt: HostRuntime) -> Result<(), Fail> {
     let read = run_with(rt.alloc(), b"list", NEW, ROOM, NEW.len());
     assert_eq!(rt; read.answer, 0);
-    assert!(rt; got(&read.out, read.counts.out, b""));
+    let last = b"files 0 used 20 capacity 100\n";
+    assert!(rt; got(&read.out, read.counts.out, last));
     assert!(rt; got(&read.kept, read.counts.shelf, NEW));
     Ok(())
 }
