@@ -2,12 +2,13 @@
 # The program for arm64 as a board would use it, but under qemu: it agrees with the programs for x86-64-v2 and
 # x86-64-v3 on drawn recordings and sessions (arm64.py), its kernel works on eight halfwords at once (arm64_loops.py),
 # and its package is installed in an arm64 system of Debian 12 and in one of Debian 13, where README's session runs and
-# the trials of real paths, kills, readers, refused memory, closed streams and scripts pass with it. The functions of
+# the trials of real paths, kills, readers, refused memory and scripts pass with it. The functions of
 # packaging/arm64/edge.c are tried on both processors first.
-# Usage: trials/arm64.sh [PART..], of edge first lanes drawn bookworm trixie main streams memory kill beside examples.
-# The last six are the trials of these names beside no system, with the C library of the cross packages. By default the
-# first six parts run, or all where no system can be had. Or trials/arm64.sh short: edge, first, and twenty drawn
-# recordings and sessions.
+# Usage: trials/arm64.sh [PART..], of edge first lanes drawn streams bookworm trixie main memory kill beside examples.
+# The last five, and streams, are the trials of these names with the C library of the cross packages. By default the
+# first seven parts run, or all where no system can be had. (A system is none for closed streams: there the kernel hands
+# the program's file to qemu, as standard input where that is closed.) Or trials/arm64.sh short: edge, first, and twenty
+# drawn recordings and sessions.
 # RECORDINGS, SESSIONS and SEED in the environment change what is drawn (500, 200 and 1), and SYSTEMS is as for
 # package.sh. Needs rt, python3, qemu, and the packages that packaging/arm64.sh names; a part may need more and says so
 # where that is missing. Where something was skipped, the last line names it, and the status is 77, which is no pass.
@@ -139,7 +140,7 @@ make_refuse() {
 in_suite() {
     make_refuse || return 1
     LRITSTATION=$usual REFUSE_LIBRARY=$refuse sh "$top/trials/package.sh" "$1" arm64 \
-        main streams memory "kill $kills" "beside short" "examples $scripts"
+        main memory "kill $kills" "beside short" "examples $scripts"
 }
 
 try_bookworm() { in_suite bookworm; }
@@ -155,10 +156,10 @@ refuse=$scratch/refuse.so
 kills="6 300"
 # (all parts but the one that is about loaders of x86-64)
 scripts="days weeks full_shelves full_disk bundle ways_in station station_of_frames signals wrapper units form"
-beside="main streams memory kill beside examples"
+apart="main memory kill beside examples"
 find_programs
-! has_systems || beside=
-parts=${*:-edge first lanes drawn bookworm trixie $beside}
+! has_systems || apart=
+parts=${*:-edge first lanes drawn streams bookworm trixie $apart}
 [ "$parts" != short ] || parts="edge first few"
 passed=0 skipped=
 for part in $parts; do

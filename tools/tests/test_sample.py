@@ -16,6 +16,7 @@ from .support import (
     read,
     station,
     taken,
+    write,
 )
 
 
