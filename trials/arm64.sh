@@ -68,6 +68,11 @@ try_edge() {
     long=$(printf '\303%.0s' $(seq 300))
     make_toolchain toolchain && compile_c edge.c "$PWD/edge.o" && compile_c edge_test.c "$PWD/edge_test.o" || return 1
     link toolchain edge-arm64 edge_test.o edge.o || return 1
+    said=$(link toolchain without edge_test.o 2>&1) && return 1
+    case $said in
+    *" has: rattle_alloc "*rattle_set_thread_name) ;;
+    *) echo "where a function is missing the link says: $said" && return 1 ;;
+    esac
     under_qemu "$PWD/edge-arm64" > edge-qemu && chmod +x edge-qemu
     printf 'edge.c on arm64: ' && "$qemu" -L "$cross" "$PWD/edge-arm64" one '' "$long" || return 1
     if ! command -v gcc > /dev/null; then
