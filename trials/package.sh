@@ -244,7 +244,7 @@ completed() {
 try_lintian() {
     lacks lintian "the package wasn't looked at" && return
     # (it would rather not be root)
-    is "the errors that lintian finds" "$(lintian --fail-on none first/*.deb 2> said | grep '^E:')" ""
+    is "what lintian finds" "$(lintian --fail-on none first/*.deb 2> said | grep '^[EW]:')" ""
 }
 
 # A fresh system in the folder `root`, where it can be had.
