@@ -1,15 +1,18 @@
 #!/bin/sh
 # The program for arm64 as a board would use it, but under qemu: it agrees with the programs for x86-64-v2 and
 # x86-64-v3 on drawn recordings and sessions (arm64.py), its kernel works on eight halfwords at once (arm64_loops.py),
-# the trials of real paths, kills, readers, refused memory, closed streams and scripts pass with it, and its package
-# does in an arm64 root of Debian 12 and of Debian 13. The functions of packaging/arm64/edge.c are tried on both
-# processors first.
-# Usage: trials/arm64.sh [PART..], by default all of these: edge first lanes drawn main streams memory kill beside
-# examples bookworm trixie. Or trials/arm64.sh short: edge, first, and twenty drawn recordings and sessions.
-# RECORDINGS, SESSIONS and SEED in the environment change what is drawn (500, 200 and 1). Needs rt, python3, qemu, and
-# the packages that packaging/arm64.sh names; a part may need more and says so where that is missing. Where something
-# was skipped, the last line names it, and the status is 77, which is no pass. $LRITSTATION may name the built
-# program; those with -v3 and -arm64 after its name stand beside it.
+# and its package is installed in an arm64 system of Debian 12 and in one of Debian 13, where README's session runs and
+# the trials of real paths, kills, readers, refused memory and scripts pass with it. The functions of
+# packaging/arm64/edge.c are tried on both processors first.
+# Usage: trials/arm64.sh [PART..], of edge first lanes drawn streams bookworm trixie main memory kill beside examples.
+# The last five, and streams, are the trials of these names with the C library of the cross packages. By default the
+# first seven parts run, or all where no system can be had. (A system is none for closed streams: there the kernel hands
+# the program's file to qemu, as standard input where that is closed.) Or trials/arm64.sh short: edge, first, and twenty
+# drawn recordings and sessions.
+# RECORDINGS, SESSIONS and SEED in the environment change what is drawn (500, 200 and 1), and SYSTEMS is as for
+# package.sh. Needs rt, python3, qemu, and the packages that packaging/arm64.sh names; a part may need more and says so
+# where that is missing. Where something was skipped, the last line names it, and the status is 77, which is no pass.
+# $LRITSTATION may name the built program; those with -v3 and -arm64 after its name stand beside it.
 top=$(cd "$(dirname "$0")/.." && pwd)
 # shellcheck source-path=SCRIPTDIR source=../packaging/arm64/tools.sh
 . "$top/packaging/arm64/tools.sh"
@@ -65,6 +68,11 @@ try_edge() {
     long=$(printf '\303%.0s' $(seq 300))
     make_toolchain toolchain && compile_c edge.c "$PWD/edge.o" && compile_c edge_test.c "$PWD/edge_test.o" || return 1
     link toolchain edge-arm64 edge_test.o edge.o || return 1
+    said=$(link toolchain without edge_test.o 2>&1) && return 1
+    case $said in
+    *" has: rattle_alloc "*rattle_set_thread_name) ;;
+    *) echo "where a function is missing the link says: $said" && return 1 ;;
+    esac
     under_qemu "$PWD/edge-arm64" > edge-qemu && chmod +x edge-qemu
     printf 'edge.c on arm64: ' && "$qemu" -L "$cross" "$PWD/edge-arm64" one '' "$long" || return 1
     if ! command -v gcc > /dev/null; then
@@ -104,6 +112,8 @@ drawn() {
         set -- "$@" "$usual-v3"
     else
         echo "no program for x86-64-v3 can be started here: two are compared"
+        python3 "$top/trials/arm64.py" "$@" "$LRITSTATION" && return 77
+        return 1
     fi
     python3 "$top/trials/arm64.py" "$@" "$LRITSTATION"
 }
@@ -113,31 +123,52 @@ try_few() { drawn 20 20; }
 
 try_main() { sh "$top/trials/main.sh"; }
 try_streams() { sh "$top/trials/streams.sh"; }
-try_kill() { sh "$top/trials/kill.sh" 6 300; }
+# shellcheck disable=SC2086 # (they are several words)
+try_kill() { sh "$top/trials/kill.sh" $kills; }
 try_beside() { sh "$top/trials/beside.sh" short; }
+# shellcheck disable=SC2086 # (they are several words)
+try_examples() { sh "$top/trials/examples.sh" $scripts; }
 
-# The library that refuses memory is one for arm64.
 try_memory() {
+    make_refuse || return 1
+    REFUSE_LIBRARY=$refuse LOADED_AS=PRELOADED sh "$top/trials/memory.sh"
+}
+
+# The library that refuses memory, for arm64.
+make_refuse() {
     compile_c "$top/trials/refuse.c" "$scratch/refuse.o" &&
-        "$kit/toolchain/bin/ld.lld" -shared -z defs -o "$scratch/refuse.so" "$scratch/refuse.o" \
-            "$cross/lib/libc.so.6" "$(gcc_cross)/libgcc.a" || return 1
-    REFUSE_LIBRARY=$scratch/refuse.so LOADED_AS=PRELOADED sh "$top/trials/memory.sh"
+        "$kit/toolchain/bin/ld.lld" -shared -z defs -o "$refuse" "$scratch/refuse.o" \
+            "$cross/lib/libc.so.6" "$(gcc_cross)/libgcc.a"
 }
 
-# (which program the wrapper makes and starts is about loaders of x86-64, and the form of scripts about none)
-try_examples() {
-    sh "$top/trials/examples.sh" days weeks full_shelves full_disk bundle ways_in station station_of_frames \
-        signals units
+# in_suite SUITE: the package in a system of its own, and these trials there
+in_suite() {
+    make_refuse || return 1
+    LRITSTATION=$usual REFUSE_LIBRARY=$refuse sh "$top/trials/package.sh" "$1" arm64 \
+        main memory "kill $kills" "beside short" "examples $scripts"
 }
 
-try_bookworm() { LRITSTATION=$usual sh "$top/trials/package.sh" bookworm arm64; }
-try_trixie() { LRITSTATION=$usual sh "$top/trials/package.sh" trixie arm64; }
+try_bookworm() { in_suite bookworm; }
+try_trixie() { in_suite trixie; }
 
+# Whether this machine can have a system for arm64.
+has_systems() {
+    [ "$(id -u)" = 0 ] && { [ -n "${SYSTEMS-}" ] || command -v mmdebstrap > /dev/null; } &&
+        grep -q '^flags: .*F' /proc/sys/fs/binfmt_misc/qemu-aarch64 2> /dev/null
+}
+
+refuse=$scratch/refuse.so
+kills="6 300"
+# (all parts but the one that is about loaders of x86-64)
+scripts="days weeks full_shelves full_disk bundle ways_in station station_of_frames signals wrapper units form"
+apart="main memory kill beside examples"
 find_programs
-parts=${*:-edge first lanes drawn main streams memory kill beside examples bookworm trixie}
+! has_systems || apart=
+parts=${*:-edge first lanes drawn streams bookworm trixie $apart}
 [ "$parts" != short ] || parts="edge first few"
 passed=0 skipped=
 for part in $parts; do
+    echo "$part:"
     (try_"$part")
     case $? in
     0) passed=$((passed + 1)) ;;

@@ -393,6 +393,7 @@ try_version() {
     sed -i '/^## Next$/d' unbuilt/CHANGELOG.md
     ends "--version of a release" 0 "$wrapper" --version
     is "the version of a release" "$(cat out)" "Gomtasil $number"
+    lacks git "no version of a commit was tried" && return
     sed "s/^## $number .*/## Next\\n\\n&/" "$top/CHANGELOG.md" > unbuilt/CHANGELOG.md
     git init -q unbuilt && git -C unbuilt -c user.name=a -c user.email=a@b commit -q --allow-empty --date=@86400 -m a || fail "git"
     minute=$(date -u -d "@$(git -C unbuilt log -1 --format=%ct)" +%Y%m%d.%H%M)

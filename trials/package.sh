@@ -4,15 +4,19 @@
 # only reads, and the pages name every command and no path that isn't installed.
 # Then a fresh Debian system: the package is installed there, README's example runs as a user without rights, the shelf
 # is that of the built program, systemd takes the units, and after the removal nothing is left.
-# Usage: trials/package.sh [SUITE [ARCHITECTURE]], bookworm and amd64 by default. Needs dpkg-deb, git, python3, xz, and
-# both built programs: that of $LRITSTATION, or else of this folder, and the one beside it with -v3 after its name. Root,
-# mmdebstrap and the network for the system, and lintian, zsh, fish and man for some cases. It takes a minute. For arm64
-# it needs the program with -arm64 after its name instead, and that this machine starts programs for arm64 by qemu
-# (binfmt_misc with flag F, as Debian's qemu-user-static sets it up). The system is one for arm64 then, for which
-# mmdebstrap needs arch-test; where there is none the status is 77.
+# Usage: trials/package.sh [SUITE [ARCHITECTURE [TRIAL..]]], bookworm and amd64 by default. Each TRIAL is the name of
+# another trial with its words ('kill 6 300'): it runs in that system too, with the program that is installed there. Where
+# one of them tries nothing there, the status is 77. Needs dpkg-deb, git, python3, xz, and both built programs: that of
+# $LRITSTATION, or else of this folder, and the one beside it with -v3 after its name. Root, mmdebstrap and the network
+# for the system, and lintian, zsh, fish and man for some cases. It takes a minute. For arm64 it needs the program with
+# -arm64 after its name instead, and that this machine starts programs for arm64 by qemu (binfmt_misc with flag F, as
+# Debian's qemu-user-static sets it up). The system is one for arm64 then, for which mmdebstrap needs arch-test; where
+# there is none the status is 77. $SYSTEMS in the environment may name a folder that has fresh systems as ARCHITECTURE-SUITE
+# (amd64-bookworm), of which a copy is taken; $REFUSE_LIBRARY is for memory.sh.
 # shellcheck disable=SC2012,SC2016 # (the names are those that are made here; a variable is one of an inner shell)
 top=$(cd "$(dirname "$0")/.." && pwd)
 suite=${1:-bookworm} architecture=${2:-amd64}
+shift $(($# < 2 ? $# : 2))
 for tool in dpkg-deb git python3 xz; do
     command -v "$tool" > /dev/null || { echo "trials/package.sh: $tool is missing, so nothing was tried"; exit 77; }
 done
@@ -36,7 +40,9 @@ scratch=$(mktemp -d) || exit 1
 trap 'rm -rf --one-file-system "$scratch"' EXIT
 trap 'exit 130' HUP INT TERM
 cd "$scratch" || exit 1
-cases=0 installed_there=
+cases=0
+installed_there=''
+skipped=''
 
 fail() {
     echo "trials/package.sh: $1"
@@ -238,14 +244,20 @@ completed() {
 try_lintian() {
     lacks lintian "the package wasn't looked at" && return
     # (it would rather not be root)
-    is "the errors that lintian finds" "$(lintian --fail-on none first/*.deb 2> said | grep '^E:')" ""
+    is "what lintian finds" "$(lintian --fail-on none first/*.deb 2> said | grep '^[EW]:')" ""
 }
 
 # A fresh system in the folder `root`, where it can be had.
 make_root() {
+    if [ -d "${SYSTEMS-}/$architecture-$suite" ]; then
+        cp -a "$SYSTEMS/$architecture-$suite" root
+        return
+    fi
+    lacks mmdebstrap "nothing was installed" && return 1
     mirror=$(cat /etc/apt/sources.list.d/debian.sources /etc/apt/sources.list 2> /dev/null |
         awk '$1 == "URIs:" || $1 == "deb" { print $2; exit }')
-    mmdebstrap --quiet --variant=apt --architectures="$architecture" --include=netcat-openbsd,python3-jinja2,python3-pil,systemd "$suite" root \
+    mmdebstrap --quiet --variant=apt --architectures="$architecture" \
+        --include=netcat-openbsd,procps,python3-jinja2,python3-pil,systemd "$suite" root \
         "${mirror:-http://deb.debian.org/debian}" > said 2>&1 && return
     tail -n 3 said
     echo "no Debian system can be had here (is there a network?): nothing was installed"
@@ -276,9 +288,38 @@ files() { find root -xdev | grep -v '^root/\(run\|tmp\|var/lib/dpkg\|var/lib/apt
 # apt VERB PACKAGE: in the system
 apt() { chroot root apt-get "$1" --yes "$2" > said 2>&1 < /dev/null || fail "apt-get $1: $(cat said)"; }
 
+# in_system WORDS: runs these in the system, which has its own processes and the files of all
+in_system() {
+    # shellcheck disable=SC2016 # (they are those of the inner shell)
+    unshare --mount --pid --fork --kill-child sh -c 'mount -t proc proc root/proc && chroot root "$@"; exit $?' sh "$@"
+}
+
+# Other trials, with the program that is installed in the system. (No file of Python's own is to be new then.)
+try_others() {
+    mkdir root/top
+    (cd "$top" && cp -R CHANGELOG.md HANDLES docs examples lritstation packaging reference tools trials "$OLDPWD/root/top/") ||
+        fail "the trials can't be copied"
+    [ -z "${REFUSE_LIBRARY-}" ] || cp "$REFUSE_LIBRARY" root/top/refuse.so || fail "the library for memory.sh"
+    for trial; do
+        # shellcheck disable=SC2086 # (words of a trial)
+        set -- $trial
+        name=$1
+        shift
+        in_system env PATH=/usr/sbin:/usr/bin:/sbin:/bin PYTHONDONTWRITEBYTECODE=1 \
+            LRITSTATION="/usr/lib/gomtasil/lritstation-$usual" ${REFUSE_LIBRARY:+REFUSE_LIBRARY=/top/refuse.so} \
+            sh "/top/trials/$name.sh" "$@" < /dev/null
+        case $? in
+        0) cases=$((cases + 1)) ;;
+        77) skipped="$skipped $name" ;;
+        *) fail "$name.sh failed in $suite" ;;
+        esac
+    done
+    rm -rf root/top
+}
+
 try_system() {
-    if [ "$(id -u)" != 0 ] || ! command -v mmdebstrap > /dev/null; then
-        echo "root or mmdebstrap is missing: nothing was installed"
+    if [ "$(id -u)" != 0 ]; then
+        echo "this needs root: nothing was installed"
         return
     fi
     make_root || return
@@ -301,6 +342,7 @@ try_system() {
     is "the version of the tool there" "$(chroot root gomtasil --version)" "Gomtasil $version"
     rm -rf root/example root/tmp/said
     try_units
+    try_others "$@"
     apt purge gomtasil
     files > after
     is "what is new after the removal" "$(diff before after)" ""
@@ -315,16 +357,19 @@ try_units() {
     done
 }
 
-process=lritstation-v2
+process=lritstation-v2 usual=v2
 ! /lib64/ld-linux-x86-64.so.2 --help | grep -q 'x86-64-v3 (supported' || process=lritstation-v3
 if [ "$architecture" = arm64 ]; then
     process=$(basename "$(realpath "$(sed -n 's/^interpreter //p' /proc/sys/fs/binfmt_misc/qemu-aarch64)")")
+    usual=arm64
 fi
 try_bytes
 version=$(dpkg-deb --field first/*.deb Version)
-for part in choice installed pages lintian system; do
+for part in choice installed pages lintian; do
     try_$part
 done
-echo "trials/package.sh: $cases cases${installed_there:+, with an installation in $suite}"
-# (for arm64 the installation is what it is about)
-[ "$architecture" = amd64 ] || [ -n "$installed_there" ] || exit 77
+try_system "$@"
+echo "trials/package.sh: $cases cases${installed_there:+, with an installation in $suite}${skipped:+; tried nothing there:$skipped}"
+# (for arm64, and with other trials, the installation is what it is about)
+[ "$architecture $#" = "amd64 0" ] || [ -n "$installed_there" ] || exit 77
+[ -z "$skipped" ] || exit 77

@@ -1,6 +1,6 @@
-/* Tries edge.c, or the kit's own functions of these names. edge_test.sh builds it for a processor and starts it with
- * the words `one`, an empty one, and one of 300 bytes. It says how many cases were tried, or the first that isn't as
- * wanted. */
+/* Tries edge.c, or the kit's own functions of these names. trials/arm64.sh builds it for each processor and starts it
+ * with the words `one`, an empty one, and one of 300 bytes. It says how many cases were tried, or the first that isn't
+ * as wanted. */
 #include <errno.h>
 #include <pthread.h>
 #include <stdint.h>
@@ -103,7 +103,7 @@ static void try_refusals(void)
     }
 }
 
-/* The words as edge_test.sh gives them: fitting, empty, too long, and none. */
+/* The words as trials/arm64.sh gives them: fitting, empty, too long, and none. */
 static void try_words(const char *name)
 {
     unsigned char room[512], *end = room + sizeof room;

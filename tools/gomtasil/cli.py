@@ -3,16 +3,18 @@
 from __future__ import annotations
 
 import argparse
+import functools
 import os
 import re
 import sys
 from collections.abc import Callable
-from typing import NamedTuple
+from typing import Any, NamedTuple
 
 from . import program
 from .shelf import ShelfError
 
 MOST_NUMBER = 10**6
+MOST_RATE = 10**10  # symbols a second
 ABOUT = """\
 What comes after the shelf of lritstation(1): its files, as they were sent and as people open them, pictures, texts, a
 page, and how a station goes. All commands only read a shelf, also while a reception writes to it; `state` may remove
@@ -166,28 +168,17 @@ class Parser(argparse.ArgumentParser):
 # ---- values of options
 
 
-def number(text: str) -> int:
+def number(text: str, least: int = 0, most: int | None = None) -> int:
     if not (text.isascii() and text.isdecimal()):
         raise argparse.ArgumentTypeError(f"{text} is no number")
+    if int(text) < least or (most is not None and int(text) > most):
+        raise argparse.ArgumentTypeError(f"{text} isn't from {least} to {most}")
     return int(text)
 
 
-def count(text: str) -> int:
-    if not 1 <= number(text) <= MOST_NUMBER:
-        raise argparse.ArgumentTypeError(f"{text} isn't from 1 to {MOST_NUMBER}")
-    return int(text)
-
-
-def rate(text: str) -> int:
-    if not 1 <= number(text) <= 10**10:
-        raise argparse.ArgumentTypeError(f"{text} is no number of symbols a second")
-    return int(text)
-
-
-def percent(text: str) -> int:
-    if not 0 <= number(text) <= 100:
-        raise argparse.ArgumentTypeError(f"{text} isn't from 0 to 100")
-    return int(text)
+count = functools.partial(number, least=1, most=MOST_NUMBER)
+rate = functools.partial(number, least=1, most=MOST_RATE)
+percent = functools.partial(number, most=100)
 
 
 def template(text: str):  # type: ignore[no-untyped-def]
@@ -388,162 +379,88 @@ def parser() -> argparse.ArgumentParser:
 Command = Callable[[Callable[[Words], int]], argparse.ArgumentParser]
 
 
+def add(it: argparse.ArgumentParser, words: str, help_: str, **more: Any) -> None:
+    """Adds an option or a place, as `--only PATTERN` or `folder FOLDER`; a lone word is an option without a value."""
+    name, _, value = words.partition(" ")
+    more |= {"metavar": value} if value else {} if "metavar" in more else {"action": "store_true"}
+    it.add_argument(name, help=help_, **more)
+
+
 def add_takers(command: Command) -> None:
-    one = command(follow)
-    other = command(contents)
-    for it in (one, other):
+    for it in (command(follow), command(contents)):
         it.usage = f"{it.prog} [OPTIONS] SHELF FOLDER [--run WORD ...]"
-        it.add_argument("shelf", metavar="SHELF", help=SHELF_OR_FOLDER)
-        it.add_argument("folder", metavar="FOLDER", help="where files come into")
-        it.add_argument("--watch", action="store_true", help="go on, and take each file as it comes")
-        it.add_argument(
-            "--flat",
-            action="store_true",
-            help="names are the annotation alone; the number goes in front of one that is taken",
-        )
-        it.add_argument(
-            "--name",
-            metavar="TEMPLATE",
-            type=template,
-            help="names of {day} {label} {number} {channel} {application} {annotation} {stamp}; each part becomes safe",
-        )
-        it.add_argument(
-            "--only",
-            metavar="PATTERN",
-            action="append",
-            help="take files whose safe annotation fits, as OR_ABI*; may come again",
-        )
-        it.add_argument(
-            "--application",
-            metavar="N",
-            type=number,
-            action="append",
-            help="take files of this application; may come again",
-        )
-        it.add_argument("--label", metavar="WORD", help="put this in front of the label, as for a second receiver")
-        it.add_argument(
-            "--keep-days", metavar="N", type=count, help="remove folders of days that are older than N days"
-        )
-        it.add_argument(
-            "--run",
-            metavar="WORD",
-            nargs=argparse.REMAINDER,
-            help="the last option: run this for each file that stands whole, with its path for {}, or at the end",
-        )
+        add(it, "shelf SHELF", SHELF_OR_FOLDER)
+        add(it, "folder FOLDER", "where files come into")
+        add(it, "--watch", "go on, and take each file as it comes")
+        add(it, "--flat", "names are the annotation alone; the number goes in front of one that is taken")
+        places = "{day} {label} {number} {channel} {application} {annotation} {stamp}"
+        add(it, "--name TEMPLATE", f"names of {places}; each part becomes safe", type=template)
+        only = "take files whose safe annotation fits, as OR_ABI*; may come again"
+        add(it, "--only PATTERN", only, action="append")
+        add(it, "--application N", "take files of this application; may come again", type=number, action="append")
+        add(it, "--label WORD", "put this in front of the label, as for a second receiver")
+        add(it, "--keep-days N", "remove folders of days that are older than N days", type=count)
+        run = "the last option: run this for each file that stands whole, with its path for {}, or at the end"
+        add(it, "--run WORD", run, nargs=argparse.REMAINDER)
 
 
 def add_pictures(command: Command) -> None:
     it = command(pictures)
-    it.add_argument("shelf", metavar="SHELF", help=SHELF_OR_FOLDER)
-    it.add_argument("folder", metavar="FOLDER", help="where pictures come into")
-    it.add_argument(
-        "--only", metavar="PATTERN", action="append", help="draw images whose safe annotation fits; may come again"
-    )
-    it.add_argument(
-        "--enhance",
-        metavar="PATTERN=TABLE",
-        type=enhancement,
-        action="append",
-        help="draw these in colours too: TABLE is ir, wv or heat",
-    )
-    it.add_argument(
-        "--false-colour",
-        metavar=("VISIBLE", "INFRARED"),
-        nargs=2,
-        help="draw false colours of two images of one minute, by their patterns",
-    )
-    it.add_argument("--no-latest", action="store_true", help="make no folder `latest`")
+    add(it, "shelf SHELF", SHELF_OR_FOLDER)
+    add(it, "folder FOLDER", "where pictures come into")
+    add(it, "--only PATTERN", "draw images whose safe annotation fits; may come again", action="append")
+    coloured = "draw these in colours too: TABLE is ir, wv or heat"
+    add(it, "--enhance PATTERN=TABLE", coloured, type=enhancement, action="append")
+    false_colour = "draw false colours of two images of one minute, by their patterns"
+    add(it, "--false-colour", false_colour, metavar=("VISIBLE", "INFRARED"), nargs=2)
+    add(it, "--no-latest", "make no folder `latest`")
 
 
 def add_page(command: Command) -> None:
     it = command(page)
-    it.add_argument("shelf", metavar="SHELF", help=SHELF_OR_FOLDER)
-    it.add_argument("folder", metavar="FOLDER", help="where the page comes into")
-    it.add_argument(
-        "--newest",
-        metavar="N",
-        type=count,
-        default=200,
-        help="show so many images and so many other files (200), and the newest of each application",
-    )
-    it.add_argument(
-        "--rate", metavar="SYMBOLS", type=rate, help="symbols a second, by which it is told when a file came"
-    )
-    it.add_argument("--log", metavar="FILE", help="a file with the lines of a reception, for the frames that were lost")
-    it.add_argument(
-        "--serve",
-        metavar="ADDRESS:PORT",
-        nargs="?",
-        const=("127.0.0.1", 8000),
-        type=address,
-        help="serve the page until a signal comes (127.0.0.1:8000), and nothing else",
-    )
-    it.add_argument(
-        "--every",
-        metavar="SECONDS",
-        type=count,
-        default=300,
-        help="how often the page is loaded anew, and written anew where it is served (300)",
-    )
+    add(it, "shelf SHELF", SHELF_OR_FOLDER)
+    add(it, "folder FOLDER", "where the page comes into")
+    newest = "show so many images and so many other files (200), and the newest of each application"
+    add(it, "--newest N", newest, type=count, default=200)
+    add(it, "--rate SYMBOLS", "symbols a second, by which it is told when a file came", type=rate)
+    add(it, "--log FILE", "a file with the lines of a reception, for the frames that were lost")
+    served = "serve the page until a signal comes (127.0.0.1:8000), and nothing else"
+    add(it, "--serve ADDRESS:PORT", served, type=address, nargs="?", const=("127.0.0.1", 8000))
+    every = "how often the page is loaded anew, and written anew where it is served (300)"
+    add(it, "--every SECONDS", every, type=count, default=300)
 
 
 def add_images(command: Command) -> None:
-    it = command(geo)
-    add_file(it)
-    it.add_argument("--alone", action="store_true", help="of a segment take the file alone")
-    it = command(plain)
-    add_file(it)
-    it = command(overlay)
-    add_file(it)
-    it.add_argument(
-        "--lines", metavar="FILE", help="lines of a longitude and a latitude; one that begins with > between polygons"
-    )
-    it.add_argument(
-        "--resolution", choices=list("clihf"), default="l", help="that of GMT's coasts, from crude to full (l)"
-    )
-    it.add_argument("--width", metavar="PIXELS", type=count, default=1, help="of the lines (1)")
-
-
-def add_file(it: argparse.ArgumentParser) -> None:
-    it.add_argument("shelf", metavar="SHELF", help="a shelf's file")
-    it.add_argument("n", metavar="N", type=number, help="the number of a file there")
-    it.add_argument("file", metavar="FILE", help="what is written")
+    for do in (geo, plain, overlay):
+        it = command(do)
+        add(it, "shelf SHELF", "a shelf's file")
+        add(it, "n N", "the number of a file there", type=number)
+        add(it, "file FILE", "what is written")
+        if do is geo:
+            add(it, "--alone", "of a segment take the file alone")
+    add(it, "--lines FILE", "lines of a longitude and a latitude; one that begins with > between polygons")
+    resolution = "that of GMT's coasts, from crude to full (l)"
+    it.add_argument("--resolution", choices=list("clihf"), default="l", help=resolution)
+    add(it, "--width PIXELS", "of the lines (1)", type=count, default=1)
 
 
 def add_station(command: Command) -> None:
-    it = command(which)
-    it.add_argument("recording", metavar="RECORDING", help="a file of soft symbols")
+    add(command(which), "recording RECORDING", "a file of soft symbols")
     it = command(state)
-    it.add_argument("folder", metavar="FOLDER", nargs="+", help="a folder of shelves")
-    it.add_argument("--minutes", metavar="M", type=number, default=30, help="without a file (30)")
-    it.add_argument("--lost", metavar="PERCENT", type=percent, default=5, help="of frames (5)")
-    it.add_argument("--full", metavar="PERCENT", type=percent, default=90, help="of disk or shelf (90)")
-    it.add_argument(
-        "--remove",
-        metavar="DAYS",
-        type=count,
-        help="remove shelves of an earlier week that nothing was added to for so long",
-    )
-    it.add_argument(
-        "--keep-free",
-        metavar="PERCENT",
-        type=percent,
-        help="remove the oldest shelves until so much of the disk is free",
-    )
-    it.add_argument("--prometheus", metavar="FILE", help="write the same, and what came in all, as text for Prometheus")
-    it.add_argument("--once", action="store_true", help="a trouble ends with 1 when it is new, and then once a day")
+    add(it, "folder FOLDER", "a folder of shelves", nargs="+")
+    add(it, "--minutes M", "without a file (30)", type=number, default=30)
+    add(it, "--lost PERCENT", "of frames (5)", type=percent, default=5)
+    add(it, "--full PERCENT", "of disk or shelf (90)", type=percent, default=90)
+    add(it, "--remove DAYS", "remove shelves of an earlier week that nothing was added to for so long", type=count)
+    add(it, "--keep-free PERCENT", "remove the oldest shelves until so much of the disk is free", type=percent)
+    add(it, "--prometheus FILE", "write the same, and what came in all, as text for Prometheus")
+    add(it, "--once", "a trouble ends with 1 when it is new, and then once a day")
     it = command(quality)
-    it.add_argument("--rate", metavar="SYMBOLS", type=rate, required=True, help="symbols a second")
-    it.add_argument(
-        "--keep", metavar="FOLDER", help="keep the last line in FOLDER/quality, and the minutes in FOLDER/minutes"
-    )
-    it.add_argument(
-        "--pause", metavar="SECONDS", type=float, default=60, help="after which it says that no frame came (60)"
-    )
-    it = command(sample)
-    it.add_argument(
-        "minutes", metavar="MINUTES", type=number, nargs="?", choices=range(1, 61), default=2, help="1 to 60 (2)"
-    )
+    add(it, "--rate SYMBOLS", "symbols a second", type=rate, required=True)
+    add(it, "--keep FOLDER", "keep the last line in FOLDER/quality, and the minutes in FOLDER/minutes")
+    add(it, "--pause SECONDS", "after which it says that no frame came (60)", type=float, default=60)
+    sampled = {"type": number, "nargs": "?", "choices": range(1, 61), "default": 2}
+    add(command(sample), "minutes MINUTES", "1 to 60 (2)", **sampled)
 
 
 def main() -> int:

@@ -6,7 +6,6 @@ picture: what is bright in infrared is cold, as services send it.
 
 from __future__ import annotations
 
-import io
 from typing import TYPE_CHECKING
 
 if TYPE_CHECKING:
@@ -48,13 +47,6 @@ def table_of(name: str) -> list[tuple[int, int, int]]:
     return colours
 
 
-def grey_of(image: Image) -> Image:
-    """The picture in 256 levels."""
-    if image.mode.startswith("I"):
-        image = image.point(lambda it: it / 256)
-    return image.convert("L")
-
-
 def enhanced(image: Image, name: str) -> Image:
     """A grey picture in the colours of a table."""
     from PIL import Image as Images
@@ -75,9 +67,3 @@ def false_colours(visible: Image, infrared: Image) -> Image:
     day = Images.merge("RGB", (visible, visible, infrared))
     night = Images.merge("RGB", (infrared.point(lambda it: it // 2), infrared.point(lambda it: it // 2), infrared))
     return Images.composite(day, night, visible.point(lambda it: 255 if it >= DAY_LEVEL else 0))
-
-
-def png_of(image: Image) -> bytes:
-    out = io.BytesIO()
-    image.save(out, "PNG")
-    return out.getvalue()

@@ -2,21 +2,25 @@
 
 from __future__ import annotations
 
+import fnmatch
 import itertools
+import json
 import os
 import re
 import shutil
 import string
 import time
-from collections.abc import Callable, Collection
-from typing import NamedTuple
+from collections.abc import Callable, Collection, Iterable
+from typing import Any, NamedTuple, TypeVar
 
-from .shelf import StoredFile
+from .shelf import Shelf, StoredFile, label_of
 
 MOST_NAME_CHARACTERS = 150
 DISCARDED = "discarded"
 WHOLE_ENDING = ".lrit"  # of mission files
+STAMP_FORM = "%Y%m%dT%H%M%SZ"
 DAY = re.compile(r"[0-9]{4}-[0-9]{2}-[0-9]{2}")
+Value = TypeVar("Value")
 PLACEHOLDERS = ("day", "label", "number", "channel", "application", "annotation", "stamp")
 
 
@@ -37,6 +41,12 @@ def safe(name: bytes | str) -> str:
 def annotation_of(file: StoredFile) -> str:
     """The safe name that a file's annotation record gives it, or nothing."""
     return safe(file.header.annotation) if file.header else ""
+
+
+def fits(file: StoredFile, patterns: Iterable[str]) -> bool:
+    """Whether the safe name of a file fits one of these patterns."""
+    name = annotation_of(file)
+    return any(fnmatch.fnmatchcase(name, it) for it in patterns)
 
 
 def today() -> str:
@@ -65,6 +75,32 @@ def write_whole(path: str, data: bytes) -> None:
         raise
 
 
+# ---- notes of what was made of a shelf
+
+
+class Note:
+    """What was found on a shelf, kept in a folder of states. It counts while the shelf and what was wanted are the
+    same."""
+
+    def __init__(self, shelf: Shelf, state: str, wanted: object):
+        about = os.fstat(shelf.descriptor)
+        self.identity = [1, os.path.realpath(shelf.path), about.st_ino, about.st_size, about.st_mtime_ns, wanted]
+        self.path = os.path.join(state, safe(label_of(shelf.path)) + ".json")
+
+    def read(self, value_of: Callable[[Any], Value]) -> Value | None:
+        """What is made of the value that is kept; None where that is of another shelf, or can't be read."""
+        try:
+            with open(self.path, encoding="utf-8") as it:
+                kept = json.load(it)
+            return value_of(kept["value"]) if kept["identity"] == self.identity else None
+        except (OSError, ValueError, KeyError, TypeError):
+            return None
+
+    def write(self, value: object) -> None:
+        os.makedirs(os.path.dirname(self.path), exist_ok=True)
+        write_whole(self.path, json.dumps({"identity": self.identity, "value": value}).encode())
+
+
 # ---- names that files get
 
 
@@ -78,7 +114,6 @@ class Template:
         self.text = text
 
     def name(self, label: str, file: StoredFile, annotation: str) -> str:
-        stamp = file.header.stamp if file.header else None
         values = {
             "day": today(),
             "label": label,
@@ -86,7 +121,7 @@ class Template:
             "channel": str(file.fields.channel),
             "application": str(file.fields.application),
             "annotation": annotation or "file",
-            "stamp": f"{stamp:%Y%m%dT%H%M%SZ}" if stamp else "unstamped",
+            "stamp": f"{file.stamp:{STAMP_FORM}}" if file.stamp else "unstamped",
         }
         return "/".join(safe(part.format(**values)) or "_" for part in self.text.split("/"))
 

@@ -2,7 +2,6 @@
 
 from __future__ import annotations
 
-import fnmatch
 import os
 import subprocess
 import sys
@@ -39,8 +38,7 @@ class Wishes:
     keep_days: int | None = None  # after which the folder of a day goes
 
     def wants(self, file: StoredFile) -> bool:
-        name = folders.annotation_of(file)
-        is_named = not self.patterns or any(fnmatch.fnmatchcase(name, it) for it in self.patterns)
+        is_named = not self.patterns or folders.fits(file, self.patterns)
         return is_named and (not self.applications or file.fields.application in self.applications)
 
 

@@ -12,7 +12,7 @@ import io
 import math
 import sys
 from collections.abc import Iterable, Iterator
-from typing import TYPE_CHECKING, NamedTuple
+from typing import TYPE_CHECKING, Any, NamedTuple
 
 from . import program, segments, texts, xrit
 from .shelf import Shelf, StoredFile
@@ -166,9 +166,8 @@ def read_image(data: bytes) -> Image | None:
 
 def is_coded(file: StoredFile) -> bool:
     """Whether the program has to be asked for the image of a file."""
-    header = file.header
-    structure = header.structure if header else None
-    if not header or not structure or not header.is_image or header.is_encrypted or texts.ending_of(file.data):
+    header, structure = file.header, file.structure
+    if not header or not structure or not file.is_open_image or texts.ending_of(file.data):
         return False
     is_small = structure.columns * structure.lines <= MOST_EXPORTED_PIXELS
     return structure.compression == xrit.LOSSLESS and header.is_lossless and is_small
@@ -184,7 +183,7 @@ def pictures_of(files: Iterable[StoredFile | None]) -> Iterator[Picture | None]:
     batch: list[StoredFile | None] = []
     size = pixels = 0
     for file in files:
-        structure = file.header.structure if file and file.header else None
+        structure = file.structure if file else None
         area = structure.columns * structure.lines if structure else 0
         if file and batch and (size + len(file.item) > MOST_BATCH_BYTES or pixels + area > MOST_BATCH_PIXELS):
             yield from batch_pictures(batch)
@@ -197,16 +196,14 @@ def pictures_of(files: Iterable[StoredFile | None]) -> Iterator[Picture | None]:
 def batch_pictures(files: list[StoredFile | None]) -> Iterator[Picture | None]:
     exported = iter(exports_of([file.item for file in files if file and is_coded(file)]))
     for file in files:
-        header = file.header if file else None
-        structure = header.structure if header else None
-        if not file or not header or not structure or not header.is_image or header.is_encrypted:
+        if not file or not file.structure or not file.is_open_image:
             yield None
         elif is_coded(file):
             yield next(exported)
         elif texts.ending_of(file.data):
             yield read_picture(file.data)
         else:
-            yield plain_picture(structure, file.data)
+            yield plain_picture(file.structure, file.data)
 
 
 def exports_of(items: list[bytes]) -> list[Picture | None]:
@@ -293,16 +290,29 @@ def grey_of(picture: Picture) -> Image:
     return Image.frombytes("L", image.size, image.tobytes()[1::2])
 
 
-def png_of(picture: Picture, image: Image | None = None) -> bytes:
+def png_of(picture: Picture) -> bytes:
     """The bytes of a PNG. Where pixels are scaled, sBIT says how many bits they had."""
+    return png_of_image(image_of(picture), 0 if picture.bits in (BYTE_BITS, WORD_BITS) else picture.bits)
+
+
+def png_of_image(image: Image, significant: int = 0) -> bytes:
     from PIL import PngImagePlugin
 
     notes = PngImagePlugin.PngInfo()
-    if image is None and picture.bits not in (BYTE_BITS, WORD_BITS):
-        notes.add(b"sBIT", bytes([picture.bits]))
+    if significant:
+        notes.add(b"sBIT", bytes([significant]))
+    return written(image, "PNG", pnginfo=notes)
+
+
+def written(image: Image, form: str, **options: Any) -> bytes:
     out = io.BytesIO()
-    (image or image_of(picture)).save(out, "PNG", pnginfo=notes)
+    image.save(out, form, **options)
     return out.getvalue()
+
+
+def levels_of(image: Image) -> Image:
+    """The first eight bits of a grey image of 16 bits; others stay as they are."""
+    return image.point(lambda it: it / 256).convert("L") if image.mode.startswith("I") else image
 
 
 def jpeg_of(image: Image, most: int, quality: int = 75) -> bytes:
@@ -311,6 +321,4 @@ def jpeg_of(image: Image, most: int, quality: int = 75) -> bytes:
 
     small = image.convert("L" if image.mode in ("1", "L", "I;16") else "RGB")
     small.thumbnail((most, most), Image.Resampling.LANCZOS)
-    out = io.BytesIO()
-    small.save(out, "JPEG", quality=quality)
-    return out.getvalue()
+    return written(small, "JPEG", quality=quality)

@@ -85,4 +85,4 @@ def overlay(path: str, number: int, lines_path: str | None, resolution: str, wid
     else:
         draw(image, placement, gmt_lines(BORDERS, resolution), BORDER_COLOUR, width)
         draw(image, placement, gmt_lines(COASTS, resolution), COAST_COLOUR, width)
-    return images.png_of(picture, image)
+    return images.png_of_image(image)

@@ -7,7 +7,6 @@ from __future__ import annotations
 import collections
 import datetime
 import hashlib
-import json
 import os
 import re
 import time
@@ -124,9 +123,6 @@ class Summary:
     others: list[Place] = field(default_factory=list)
     points: list[tuple[float, float]] = field(default_factory=list)  # corrected bytes a frame, over frames
 
-    def kept(self) -> dict[str, Any]:
-        return dict(vars(self))
-
     @classmethod
     def of(cls, kept: dict[str, Any]) -> Summary:
         def place(row: Any) -> Place:
@@ -212,18 +208,12 @@ def summary_of(shelf: Shelf, newest: int, gone: frozenset[int] = frozenset()) ->
 
 def kept_summary(shelf: Shelf, state: str, newest: int) -> Summary:
     """The summary of a shelf. That of one which hasn't changed is read from the page's state."""
-    about = os.fstat(shelf.descriptor)
-    identity = [1, os.path.realpath(shelf.path), about.st_ino, about.st_size, about.st_mtime_ns, newest]
-    path = os.path.join(state, folders.safe(shelves.label_of(shelf.path)) + ".json")
-    try:
-        with open(path, encoding="utf-8") as it:
-            kept = json.load(it)
-        if kept["identity"] == identity:
-            return Summary.of(kept["summary"])
-    except (OSError, ValueError, KeyError, TypeError):
-        pass
+    note = folders.Note(shelf, state, newest)
+    kept = note.read(Summary.of)
+    if kept:
+        return kept
     found = summary_of(shelf, newest)
-    folders.write_whole(path, json.dumps({"identity": identity, "summary": found.kept()}).encode())
+    note.write(vars(found))
     return found
 
 
@@ -319,10 +309,7 @@ class Pictures:
                 image = images.read_image(it.read())
             if not image:
                 return picture
-            if image.mode.startswith("I"):
-                # (16 bits: the first eight of them)
-                image = image.point(lambda it: it / 256).convert("L")
-            self.write(name, images.jpeg_of(image, LARGE_PIXELS, 85))
+            self.write(name, images.jpeg_of(images.levels_of(image), LARGE_PIXELS, 85))
         return name
 
     def clear_away(self) -> None:
@@ -334,8 +321,7 @@ class Pictures:
 
 
 def stamp_of(file: StoredFile) -> str:
-    stamp = file.header.stamp if file.header else None
-    return f"{stamp:%Y-%m-%d %H:%M:%S}" if stamp else ""
+    return f"{file.stamp:%Y-%m-%d %H:%M:%S}" if file.stamp else ""
 
 
 def shown_image(pictures: Pictures, source: Source, group: Group, place: Place) -> Shown:

@@ -8,13 +8,11 @@ where packets are -mended-COUNT, until a later run has more of them. What stands
 
 from __future__ import annotations
 
-import fnmatch
-import json
 import os
 import re
 from collections.abc import Iterator
 from dataclasses import dataclass
-from typing import TYPE_CHECKING, Any, NamedTuple
+from typing import TYPE_CHECKING, NamedTuple
 
 from . import colours, folder as folders
 from . import images, products, program, segments, texts, xrit
@@ -77,17 +75,13 @@ class Drawer:
             if not isinstance(group, Group):
                 self.failed = True
                 program.tell(f"file {group.number} of {self.shelf.path} has a bad checksum and is left out")
-            elif group.file.header and group.file.header.structure and self.wants(group):
+            elif group.file.structure and folders.fits(group.file, self.wishes.patterns or ["*"]):
                 yield group
 
-    def wants(self, group: Group) -> bool:
-        name = folders.annotation_of(group.file)
-        return not self.wishes.patterns or any(fnmatch.fnmatchcase(name, it) for it in self.wishes.patterns)
-
     def stem_of(self, group: Group) -> str:
-        stamp = group.file.header.stamp if group.file.header else None
+        stamp = group.file.stamp
         name = folders.annotation_of(group.file).removesuffix(folders.WHOLE_ENDING) or "image"
-        return f"{f'{stamp:%Y%m%dT%H%M%SZ}-' if stamp else ''}{name}@{self.label}.{group.file.number}"
+        return f"{f'{stamp:{folders.STAMP_FORM}}-' if stamp else ''}{name}@{self.label}.{group.file.number}"
 
     def name_of(self, group: Group) -> str:
         """The name of a picture without its ending."""
@@ -152,19 +146,16 @@ class Drawer:
 
     def enhance(self, drawn: Drawn) -> None:
         for it in self.wishes.enhancements:
-            stem = drawn.name.rsplit(".", 1)[0]
-            name = f"{stem}-{it.table}.png"
-            if fnmatch.fnmatchcase(folders.annotation_of(drawn.group.file), it.pattern) and not os.path.exists(
-                self.full(name)
-            ):
+            name = f"{os.path.splitext(drawn.name)[0]}-{it.table}.png"
+            if folders.fits(drawn.group.file, [it.pattern]) and not os.path.exists(self.full(name)):
                 image = self.read(drawn.name)
                 if image:
-                    self.put(name, colours.png_of(colours.enhanced(image, it.table)))
+                    self.put(name, images.png_of_image(colours.enhanced(image, it.table)))
 
     def read(self, name: str) -> Image | None:
         with open(self.full(name), "rb") as it:
             image = images.read_image(it.read())
-        return colours.grey_of(image) if image else None
+        return images.levels_of(image).convert("L") if image else None
 
     def colour(self, drawn: list[Drawn]) -> None:
         """Draws the false colours of each pair of a visible and an infrared picture of the same time."""
@@ -172,20 +163,19 @@ class Drawer:
             return
         visible, infrared = (self.by_time(drawn, pattern) for pattern in self.wishes.false_colour)
         for when in sorted(set(visible) & set(infrared)):
-            name = visible[when].name.rsplit(".", 1)[0] + "-colours.png"
+            name = os.path.splitext(visible[when].name)[0] + "-colours.png"
             if not os.path.exists(self.full(name)):
                 one, other = self.read(visible[when].name), self.read(infrared[when].name)
                 if one and other:
-                    self.put(name, colours.png_of(colours.false_colours(one, other)))
+                    self.put(name, images.png_of_image(colours.false_colours(one, other)))
 
     @staticmethod
     def by_time(drawn: list[Drawn], pattern: str) -> dict[str, Drawn]:
         """The pictures whose names fit, by their minutes."""
         found = {}
         for it in drawn:
-            stamp = it.group.file.header.stamp if it.group.file.header else None
-            if stamp and fnmatch.fnmatchcase(folders.annotation_of(it.group.file), pattern):
-                found[f"{stamp:%Y%m%d%H%M}"] = it
+            if it.group.file.stamp and folders.fits(it.group.file, [pattern]):
+                found[f"{it.group.file.stamp:%Y%m%d%H%M}"] = it
         return found
 
     # ---- the latest of each kind
@@ -204,8 +194,7 @@ class Drawer:
 
 
 def stamp_of(group: Group) -> str:
-    stamp = group.file.header.stamp if group.file.header else None
-    return f"{stamp:%Y%m%dT%H%M%S%f}" if stamp else ""
+    return f"{group.file.stamp:%Y%m%dT%H%M%S%f}" if group.file.stamp else ""
 
 
 def renamed_over(one: str, other: str) -> None:
@@ -222,25 +211,11 @@ def renamed_over(one: str, other: str) -> None:
 # ---- what was drawn
 
 
-def noted(path: str, identity: list[Any], folder: str) -> bool:
-    """Whether all of a shelf was drawn, by the note of the last run."""
-    try:
-        with open(path, encoding="utf-8") as it:
-            kept = json.load(it)
-        return bool(kept["identity"] == identity) and all(
-            os.path.exists(os.path.join(folder, it)) for it in kept["names"]
-        )
-    except (OSError, ValueError, KeyError, TypeError):
-        return False
-
-
 def draw_shelf(path: str, folder: str, wishes: Wishes) -> bool:
     """Draws the images of a shelf. Whether it was all done."""
     with Shelf(path) as shelf:
-        about = os.fstat(shelf.descriptor)
-        identity = [1, os.path.realpath(path), about.st_ino, about.st_size, about.st_mtime_ns, repr(wishes)]
-        note = os.path.join(folder, STATE, folders.safe(shelves.label_of(path)) + ".json")
-        if noted(note, identity, folder):
+        note = folders.Note(shelf, os.path.join(folder, STATE), repr(wishes))
+        if note.read(lambda names: all(os.path.exists(os.path.join(folder, it)) for it in names)):
             return True
         drawer = Drawer(shelf, folder, wishes)
         drawn = drawer.draw_all()
@@ -248,8 +223,7 @@ def draw_shelf(path: str, folder: str, wishes: Wishes) -> bool:
         if wishes.has_latest:
             drawer.link_latest(drawn)
     if not drawer.failed:
-        os.makedirs(os.path.dirname(note), exist_ok=True)
-        folders.write_whole(note, json.dumps({"identity": identity, "names": [it.name for it in drawn]}).encode())
+        note.write([it.name for it in drawn])
     return not drawer.failed
 
 

@@ -26,8 +26,7 @@ def plain(path: str, number: int) -> bytes:
     """The plain bytes of a file. One that isn't coded stays as it is."""
     with Shelf(path) as shelf:
         file = shelf.file(number)
-    header = file.header
-    structure = header.structure if header else None
+    header, structure = file.header, file.structure
     if header is None or structure is None or structure.compression == xrit.NOT_COMPRESSED:
         return file.proper
     picture = images.picture_of(file) if images.is_coded(file) else None

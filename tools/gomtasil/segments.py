@@ -119,7 +119,7 @@ class Group:
     @property
     def area(self) -> int:
         """The pixels of the whole picture."""
-        structure = self.file.header.structure if self.file.header else None
+        structure = self.file.structure
         if not structure:
             return 0
         if not self.segments:

@@ -8,6 +8,7 @@ was asked for before a gate.
 from __future__ import annotations
 
 import binascii
+import datetime
 import os
 import struct
 from collections.abc import Iterable, Iterator
@@ -106,6 +107,19 @@ class StoredFile:
     @cached_property
     def header(self) -> xrit.Header | None:
         return xrit.header_of(self.proper)
+
+    @property
+    def structure(self) -> xrit.Structure | None:
+        return self.header.structure if self.header else None
+
+    @property
+    def stamp(self) -> datetime.datetime | None:
+        return self.header.stamp if self.header else None
+
+    @property
+    def is_open_image(self) -> bool:
+        """Whether it is an image that isn't encrypted, with a record of its structure."""
+        return bool(self.header and self.structure and self.header.is_image and not self.header.is_encrypted)
 
     @property
     def data(self) -> bytes:

@@ -174,14 +174,23 @@ class AtDrawnMoments(Case):
                 os.unlink(os.path.join("drawn", path))
                 self.seen[number] = None
 
+    def end(self, process, what):
+        """Ends it by a signal. (Python loses an interrupt that comes while it starts, so that one may come again.)"""
+        process.send_signal(what)
+        try:
+            process.communicate(timeout=SECONDS / 4 if what == signal.SIGINT else SECONDS)
+        except subprocess.TimeoutExpired:
+            self.assertEqual(what, signal.SIGINT)
+            process.send_signal(what)
+            process.communicate(timeout=SECONDS)
+
     def test_each_file_comes_once(self):
         kinds = (signal.SIGKILL, signal.SIGKILL, signal.SIGKILL, signal.SIGTERM, signal.SIGINT)
         for _ in range(KILLS):
             process = start("follow", "drawn.shelf", "drawn", "--watch")
             self.work(time.monotonic() + 0.1 + self.draws.random() * 0.3)
             what = self.draws.choice(kinds)
-            process.send_signal(what)
-            process.communicate(timeout=SECONDS)
+            self.end(process, what)
             # (a signal that comes before the command is at work ends it, and nothing stands then)
             if what != signal.SIGKILL and process.returncode == 0:
                 self.assertTrue(has_no_rest("drawn"), "a signal leaves no part")

@@ -3,6 +3,7 @@
 import os
 import re
 import subprocess
+import sys
 
 from .support import (
     COMMAND,
@@ -15,6 +16,7 @@ from .support import (
     read,
     station,
     taken,
+    write,
 )
 
 
@@ -75,6 +77,8 @@ class Session(Case):
         os.mkdir("path")
         os.symlink(PROGRAM, "path/lritstation")
         os.symlink(COMMAND[-1], "path/gomtasil")
+        write("path/python3", f'#!/bin/sh\nexec "{sys.executable}" "$@"\n'.encode())
+        os.chmod("path/python3", 0o755)
         environment = {key: value for key, value in os.environ.items() if key != "LRITSTATION"}
         environment["PATH"] = f"{os.getcwd()}/path:{environment['PATH']}"
         for command, wanted in steps:
