@@ -77,7 +77,7 @@ for_web() {
 # The newest version of CHANGELOG and the commit.
 version() {
     number=$(sed -n 's/^## \([0-9][0-9.]*\) .*/\1/p' "$top/CHANGELOG.md" | head -n 1)
-    echo "$number, commit $(git -C "$top" log -1 --format=%h 2> /dev/null || echo unknown)"
+    echo "$number, commit $(git -C "$top" log -1 --format=%H 2> /dev/null | cut -c 1-12)"
 }
 
 for tool in rt python3; do
