@@ -13,6 +13,8 @@ import { ZipWriter } from './zip.mjs';
 const MOST_SIDE = 1200; // of a picture as it is shown
 const MOST_SHOWN_CHARACTERS = 100_000; // of a text as it is shown
 const DRAW_SHARE = 4; // of the time between two drawings, drawing takes one part
+const PAUSE_AFTER = 30; // milliseconds of work after which messages are heard
+const MOST_DRAWN = 40; // pictures that are drawn until more are asked for
 const WHOLE_ENDING = '.lrit';
 
 /**
@@ -39,6 +41,7 @@ export class Keeper {
   queue = []; // files that are to be looked at
   /** @type {Set<Group>} */
   changed = new Set(); // pictures that are to be drawn
+  most = MOST_DRAWN; // pictures that are drawn
   run = 0; // which shelf it is
   drawFrom = 0;
   isBusy = false;
@@ -122,19 +125,35 @@ export class Keeper {
     if (this.isBusy) return;
     this.isBusy = true;
     const { run } = this;
-    for (;;) {
-      await new Promise((go) => setTimeout(go, 0));
+    let from = 0;
+    while (this.queue.length || this.changed.size) {
+      if (performance.now() - from > PAUSE_AFTER) {
+        await new Promise((go) => setTimeout(go, 0));
+        from = performance.now();
+      }
       if (this.run !== run) return;
-      const isTime = performance.now() >= this.drawFrom || (this.isEnding && !this.queue.length);
-      if (this.changed.size && (isTime || !this.queue.length)) {
-        if (isTime) await this.drawOne();
-        else await new Promise((go) => setTimeout(go, this.drawFrom - performance.now()));
-      } else if (this.queue.length) await this.lookAt(/** @type {number} */ (this.queue.shift()));
-      else break;
+      await this.step();
     }
     this.isBusy = false;
-    if (this.isEnding) this.tell({ kind: 'settled', files: this.heads.size - this.gone.size });
+    const waiting = Math.max(0, this.groups.all.length - this.most);
+    if (this.isEnding) this.tell({ kind: 'settled', files: this.heads.size - this.gone.size, waiting });
     this.isEnding = false;
+  }
+
+  /** Draws a picture where it is time for that, and else looks at a file. */
+  async step() {
+    const wait = this.isEnding && !this.queue.length ? 0 : this.drawFrom - performance.now();
+    if (this.changed.size && wait <= 0) await this.drawOne();
+    else if (this.queue.length) await this.lookAt(/** @type {number} */ (this.queue.shift()));
+    else await new Promise((go) => setTimeout(go, Math.min(wait, 10 * PAUSE_AFTER)));
+  }
+
+  /** Draws more pictures. */
+  more() {
+    for (const group of this.groups.all.slice(this.most, this.most + MOST_DRAWN)) this.changed.add(group);
+    this.most += MOST_DRAWN;
+    this.isEnding = true;
+    this.work();
   }
 
   /**
@@ -155,7 +174,8 @@ export class Keeper {
     if (this.run !== run) return;
     const note = header && isEncrypted(header) ? 'it is encrypted, so it is kept as it came' : found.note;
     this.tell({ ...aboutFile(file), what: isPicture ? 'picture' : whatIs(found.files), note });
-    if (isPicture) this.changed.add(this.groups.add(file));
+    const group = isPicture ? this.groups.add(file) : null;
+    if (group && group.id < this.most) this.changed.add(group);
     for (const [member, it] of found.files.entries()) this.tellOpened(file, member, it);
   }
 

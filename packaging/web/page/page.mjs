@@ -110,6 +110,7 @@ class Page {
     at('tries').replaceChildren();
     at('tries-box').hidden = true;
     at('save-recording').hidden = true;
+    delete document.body.dataset.settled;
     this.going(true);
   }
 
@@ -213,7 +214,8 @@ class Page {
   }
 
   /** @param {Message} message */
-  hear_received({ status, last, err, fault }) {
+  hear_received({ status, last, err, fault, memory }) {
+    document.body.dataset.memory = String(memory);
     if (status !== 0) this.say(`The receiver ended early: ${[err, fault].filter(Boolean).join('; ')}`, true);
     else this.say(`All is read. ${summaryOf(last)}`);
     this.going(false);
@@ -249,13 +251,15 @@ class Page {
   }
 
   /** @param {Message} message */
-  hear_quality({ buckets, total }) {
+  hear_quality({ buckets, total, isWhole = false }) {
+    at('quality').dataset.isWhole = String(isWhole);
     at('quality-section').hidden = false;
     at('quality').replaceChildren(...curveOf(buckets, total));
   }
 
   /** @param {Message} message */
-  hear_settled({ files }) {
+  hear_settled({ files, waiting }) {
+    if (waiting) this.view.offerMore('pictures', () => this.keeper.postMessage({ kind: 'more' }));
     document.body.dataset.settled = String(files);
   }
 

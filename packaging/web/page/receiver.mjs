@@ -82,7 +82,8 @@ export function receive(station, file, found, keep, tell) {
   const input = inputOf(file, found.form, tell);
   const status = station.live(['receive', ...optionsOf(found)], { input, shelf, put });
   const fault = station.fault ? String(station.fault) : '';
-  tell({ kind: 'received', status, last, err: err.trim(), fault, milliseconds: performance.now() - start });
+  const memory = station.memory.buffer.byteLength;
+  tell({ kind: 'received', status, last, err: err.trim(), fault, memory, milliseconds: performance.now() - start });
 }
 
 /**

@@ -2,7 +2,7 @@
 // when it is asked for.
 import { at, button, element } from './elements.mjs';
 
-const MOST = { pictures: 40, texts: 40, files: 200 }; // that are shown until more is asked for
+const MOST = { texts: 40, files: 200 }; // that are shown until more is asked for
 
 /**
  * @typedef {(message: Record<string, unknown>) => void} Ask
@@ -12,9 +12,9 @@ const MOST = { pictures: 40, texts: 40, files: 200 }; // that are shown until mo
 export class View {
   /** @type {Map<number, HTMLElement>} */
   figures = new Map(); // of pictures that may be drawn anew
-  counts = { pictures: 0, texts: 0, files: 0 };
-  /** @type {Record<string, Node[]>} */
-  hidden = { pictures: [], texts: [], files: [] };
+  counts = { texts: 0, files: 0 };
+  /** @type {Record<string, (() => HTMLElement)[]>} what is made when more is asked for */
+  hidden = { texts: [], files: [] };
   /** @type {string[]} */
   urls = [];
 
@@ -26,57 +26,75 @@ export class View {
   clear() {
     this.urls.forEach((url) => URL.revokeObjectURL(url));
     Object.assign(this, new View(this.ask));
-    for (const id of ['pictures', 'texts', 'files', 'quality', 'files-more']) at(id).replaceChildren();
+    for (const id of ['pictures', 'texts', 'files', 'quality', 'pictures-more', 'texts-more', 'files-more']) at(id).replaceChildren();
     for (const id of ['pictures', 'texts', 'files', 'quality']) at(`${id}-section`).hidden = true;
   }
 
   /**
-   * Puts an element into a list, or keeps it until more is asked for.
-   * @param {'pictures' | 'texts' | 'files'} list
-   * @param {HTMLElement} it
+   * Puts what is made into a list, or makes it when more is asked for.
+   * @param {'texts' | 'files'} list
+   * @param {() => HTMLElement} make
    */
-  put(list, it) {
+  put(list, make) {
     at(`${list}-section`).hidden = false;
     this.counts[list] += 1;
     if (this.counts[list] <= MOST[list]) {
-      at(list).append(it);
+      at(list).append(make());
       return;
     }
-    this.hidden[list].push(it);
-    if (this.hidden[list].length === 1) this.offerMore(list);
+    this.hidden[list].push(make);
+    if (this.hidden[list].length === 1) this.offerMore(list, () => this.showMore(list));
   }
 
-  /** @param {'pictures' | 'texts' | 'files'} list */
-  offerMore(list) {
+  /** @param {'texts' | 'files'} list */
+  showMore(list) {
+    at(list).append(...this.hidden[list].splice(0, MOST[list]).map((make) => make()));
+    if (this.hidden[list].length) this.offerMore(list, () => this.showMore(list));
+  }
+
+  /**
+   * @param {'pictures' | 'texts' | 'files'} list
+   * @param {() => void} show
+   */
+  offerMore(list, show) {
     const more = button('Show more', `Show more ${list}`, () => {
       more.remove();
-      at(list).append(...this.hidden[list].splice(0, 5 * MOST[list]));
-      if (this.hidden[list].length) this.offerMore(list);
+      show();
     });
-    (list === 'files' ? at('files-more') : at(`${list}-section`)).append(more);
+    at(`${list}-more`).replaceChildren(more);
   }
 
   /** @param {Message} file */
   file(file) {
+    this.put('files', () => this.rowOf(file));
+  }
+
+  /** @param {Message} file */
+  rowOf(file) {
     const cells = [file.number, file.name, file.stamp, [file.what, file.note].filter(Boolean).join(': '), file.size, file.corrected];
     const row = element('tr', {}, ...cells.map((it) => element('td', { textContent: it ?? '' })));
     const saves = button('as it came', `Save file ${file.number} as it came`, () =>
       this.ask({ kind: 'saveFile', number: file.number, member: -1 }),
     );
     row.append(element('td', {}, ...(file.size === undefined ? [] : [saves])));
-    this.put('files', row);
+    return row;
   }
 
   /** @param {Message} text */
   text(text) {
+    this.put('texts', () => this.boxOf(text));
+  }
+
+  /** @param {Message} text */
+  boxOf(text) {
     const title = text.heading ? `${text.heading} · ${text.name}` : text.name;
     const box = element('article', {}, element('h3', { textContent: title }));
     const note = [text.stamp, text.isCut ? 'this is its beginning' : ''].filter(Boolean).join(' · ');
     const pre = element('pre', { textContent: text.text, tabIndex: 0 });
     pre.setAttribute('aria-label', title);
-    box.append(element('p', { className: 'small', textContent: note }), pre);
-    box.append(button('Save the text', `Save the text of ${title}`, () => this.ask({ kind: 'saveFile', number: text.number, member: text.member })));
-    this.put('texts', box);
+    const ask = () => this.ask({ kind: 'saveFile', number: text.number, member: text.member });
+    box.append(element('p', { className: 'small', textContent: note }), pre, button('Save the text', `Save the text of ${title}`, ask));
+    return box;
   }
 
   /**
@@ -119,7 +137,8 @@ export class View {
     }
     const figure = element('figure', {}, shown, caption);
     if (id !== undefined) this.figures.set(id, figure);
-    this.put('pictures', figure);
+    at('pictures-section').hidden = false;
+    at('pictures').append(figure);
   }
 }
 

@@ -36,6 +36,7 @@ const TASKS = {
   },
   end: () => keeper.end(),
   open: ({ file }) => keeper.open(bytesOf(file)),
+  more: () => keeper.more(),
   save: ({ id }) => keeper.save(id),
   saveFile: ({ number, member }) => keeper.saveFile(number, member),
   saveAll: () => keeper.saveAll(),
