@@ -12,8 +12,7 @@ crate=lr_embed
 root=src/lib.rt
 product="web page"
 mkdir -p -- "${1:-$top/out/web}" || exit 1
-folder=$(cd -- "${1:-$top/out/web}" && pwd) || exit 1
-program=$folder/receiver.html
+program=$(cd -- "${1:-$top/out/web}" && pwd)/receiver.html || exit 1
 heap="rattle_alloc rattle_realloc rattle_dealloc"
 host="lr_host_take lr_host_put lr_host_length lr_host_read lr_host_write lr_host_cut lr_host_sync"
 # shellcheck source-path=SCRIPTDIR source=proving.sh
