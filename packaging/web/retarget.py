@@ -34,10 +34,20 @@ UNKNOWN = re.compile(
     r"\b(asm|addrspace|thread_local|inttoptr|ptrtoint|x86_\w+|half|bfloat|ppc_fp128|fp128|vscale|callbr|invoke|landingpad"
     r"|va_arg|ifunc|gc|comdat|section|partition|personality|prologue|prefix|fastcc|coldcc|\w+cc|cc\d+)\b"
 )
-VECTOR = re.compile(r"<\s*(vscale x )?\d+ x ")
+# Vectors are LLVM's own, of integers, and lie in memory in one order on both.
+VECTOR = re.compile(r"<\s*(\w+) x (\w+)")
+LENGTHS, ELEMENTS = {"2", "4", "8", "16", "32", "64"}, {"i1", "i8", "i16", "i32", "i64"}
+# Instructions.
+KNOWN = set(
+    "add alloca and ashr bitcast br call extractelement extractvalue fadd fcmp fdiv fmul fneg freeze fsub getelementptr"
+    " icmp insertelement insertvalue load lshr mul or phi ptrtoaddr ret sdiv select sext shl shufflevector sitofp srem"
+    " store sub switch trunc udiv uitofp unreachable urem xor zext".split()
+)
+INSTRUCTION = re.compile(r"\s+(?:%[\w.$-]+ = )?(?:(?:tail|musttail|notail) )?(\w+)")
+CHOICE = re.compile(r"\s+(i\d+ -?\d+, label %\S+|\])$")  # of a switch
 QUOTED = re.compile(r'c?"[^"]*"')
 TYPES = re.compile(r"\b[if](\d+)\b")
-WIDTHS = {1, 2, 8, 16, 24, 32, 40, 48, 56, 64, 128}
+WIDTHS = {1, 2, 8, 16, 24, 32, 40, 48, 56, 64, 128, 256}
 STARTS = (";", "source_filename", "target ", "define ", "declare ", "attributes ", "@", "!", "}", "%")
 
 
@@ -53,12 +63,18 @@ def plain(line: str) -> str:
 def check_line(line: str, number: int) -> None:
     """Looks at a line of a function or of a constant."""
     text = plain(line)
-    found = UNKNOWN.search(text) or VECTOR.search(text)
+    found = UNKNOWN.search(text)
     if found:
-        raise Unknown(f"line {number} has '{found[0].strip()}'")
+        raise Unknown(f"line {number} has '{found[0]}'")
+    for length, kind in VECTOR.findall(text):
+        if length not in LENGTHS or kind not in ELEMENTS:
+            raise Unknown(f"line {number} has a vector of {length} {kind}")
     for width in map(int, TYPES.findall(text)):
         if width not in WIDTHS:
             raise Unknown(f"line {number} has an integer of {width} bits")
+    instruction = INSTRUCTION.match(text)
+    if instruction and not CHOICE.match(text) and instruction[1] not in KNOWN:
+        raise Unknown(f"line {number} has the instruction {instruction[1]}")
 
 
 def check_declared(line: str, number: int, names: set[str]) -> None:
