@@ -147,9 +147,8 @@ async function strips(browser) {
 /** A long recording: its memory, its time, files as they come, and a stop. */
 async function long(browser) {
   const recording = fs.readFileSync(place('recording'));
-  if (!fs.existsSync(place('long'))) {
-    for (let time = 0; time < LONG_TIMES; time += 1) fs.appendFileSync(place('long'), recording);
-  }
+  fs.rmSync(place('long'), { force: true });
+  for (let time = 0; time < LONG_TIMES; time += 1) fs.appendFileSync(place('long'), recording);
   const start = Date.now();
   await given(browser, place('long'), 600);
   const seconds = ((Date.now() - start) / 1000).toFixed(0);
@@ -239,7 +238,8 @@ for (const name of names) {
   const browser = await kinds[name].start();
   const isChromium = name === 'chromium';
   try {
-    const parts = [sample, shelf, zip, forms, hostile, strips, ...(isChromium ? [screens, keyboard] : []), served, long];
+    const all = [sample, shelf, zip, forms, hostile, strips, ...(isChromium ? [screens, keyboard] : []), served, long];
+    const parts = all.filter((it) => !process.env.PARTS || process.env.PARTS.split(' ').includes(it.name));
     for (const part of parts) {
       fs.rmSync(browser.downloads, { recursive: true });
       fs.mkdirSync(browser.downloads);
