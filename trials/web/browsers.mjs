@@ -131,7 +131,7 @@ export class Chromium extends Browser {
   async giveFile(selector, file) {
     const { root } = await this.send('DOM.getDocument', {}, this.session);
     const { nodeId } = await this.send('DOM.querySelector', { nodeId: root.nodeId, selector }, this.session);
-    await this.send('DOM.setFileInputFiles', { files: [file], nodeId }, this.session);
+    await this.send('DOM.setFileInputFiles', { files: [file].flat(), nodeId }, this.session);
   }
 
   async key(key, code) {

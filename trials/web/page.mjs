@@ -56,7 +56,6 @@ const earth = () => {
 
 /** From README's recording to a saved picture in three clicks, from a disk. */
 async function sample(browser) {
-  await opened(browser);
   await browser.click('#sample'); // 1
   await browser.until('document.body.dataset.settled');
   check(/All is read. 470 of 470 frames were restored, and 6 files came./.test(await state(browser)), await state(browser));
@@ -75,6 +74,8 @@ async function sample(browser) {
 
 /** The shelf is saved, the program reads it, and the page opens it again. */
 async function shelf(browser) {
+  await browser.click('#sample');
+  await browser.until('document.body.dataset.settled');
   await browser.click('#save-shelf');
   const saved = await browser.saved(/\.shelf$/);
   const kept = place(`kept-${browser.name}.shelf`);
@@ -200,6 +201,34 @@ async function served(browser) {
   }
 }
 
+/** The host of the modules, as one script, with a function that runs commands over files of an element. */
+function hostScript() {
+  const inside = fs.readFileSync(new URL('inside.js', import.meta.url), 'utf8');
+  const packaging = new URL('../../packaging/web/', import.meta.url).pathname;
+  const line = "import bundle; seen = set(); print(bundle.script('station.mjs', seen) + bundle.script('devices.mjs', seen))";
+  const done = spawnSync('python3', ['-c', line], { env: { ...process.env, PYTHONPATH: packaging } });
+  if (done.status !== 0) throw new Error(done.stderr.toString());
+  return `(() => { ${done.stdout}\n${inside} })()`;
+}
+
+/** Every command that was compared in Node, by both modules within the browser. */
+async function commands(browser) {
+  if (browser.name !== 'Chromium') return '';
+  const answers = JSON.parse(fs.readFileSync(place('answers.json'), 'utf8'));
+  await browser.evaluate("document.body.append(Object.assign(document.createElement('input'), { type: 'file', multiple: true, id: 'lent-files' }))");
+  const files = [...new Set(answers.flatMap((it) => [it.input, it.shelf]))];
+  await browser.giveFile('#lent-files', files.map(place));
+  await browser.evaluate(hostScript());
+  for (const { words, input, shelf, ...wanted } of answers) {
+    const found = JSON.parse(await browser.evaluate(`window.runBoth(${JSON.stringify({ words, input, shelf })})`));
+    for (const [name, answer] of Object.entries(found)) {
+      const isSame = Object.entries(wanted).every(([key, value]) => answer[key] === value);
+      check(isSame, `${name}: ${words.join(' ')} of ${input} and ${shelf}: ${JSON.stringify(answer)}, not ${JSON.stringify(wanted)}`);
+    }
+  }
+  return `${answers.length} commands by lr_run and lr_live`;
+}
+
 /** What is seen on screens of each kind. */
 async function screens(browser) {
   const kinds = { wide: { width: 1100, height: 1500 }, phone: { width: 390, height: 844, isPhone: true }, dark: { width: 1100, height: 1500, isDark: true } };
@@ -217,7 +246,6 @@ async function screens(browser) {
 
 /** By the keyboard alone, and as a screen reader has it. */
 async function keyboard(browser) {
-  await opened(browser);
   await browser.key('Tab', 9); // past the link to the results
   await browser.key('Tab', 9);
   check((await browser.evaluate('document.activeElement.id')) === 'sample', await browser.evaluate('document.activeElement.id'));
@@ -238,12 +266,13 @@ for (const name of names) {
   const browser = await kinds[name].start();
   const isChromium = name === 'chromium';
   try {
-    const all = [sample, shelf, zip, forms, hostile, strips, ...(isChromium ? [screens, keyboard] : []), served, long];
+    const all = [commands, sample, shelf, zip, forms, hostile, strips, ...(isChromium ? [screens, keyboard] : []), served, long];
     const parts = all.filter((it) => !process.env.PARTS || process.env.PARTS.split(' ').includes(it.name));
     for (const part of parts) {
       fs.rmSync(browser.downloads, { recursive: true });
       fs.mkdirSync(browser.downloads);
       try {
+        if (part !== served) await opened(browser);
         const said = await part(browser);
         if (said) told.push(`${browser.name}: ${part.name}: ${said}`);
       } catch (fault) {

@@ -2,6 +2,7 @@
 // recordings, by the program over files, by lr_run over bytes, and by lr_live over devices: the status, what is put, the
 // line on why it ended, and the bytes of the shelf. Then memory is refused at each block in turn.
 import { spawnSync } from 'node:child_process';
+import { createHash } from 'node:crypto';
 import fs from 'node:fs';
 import path from 'node:path';
 import { BytesInput, MemoryShelf } from '../../packaging/web/page/devices.mjs';
@@ -17,6 +18,7 @@ const CODE = ['--line', 'nrz-m', '--g2', 'plain'];
 
 const file = (name) => new Uint8Array(fs.readFileSync(path.join(folder, name)));
 const station = (name) => new Station(new WebAssembly.Module(fs.readFileSync(path.join(modules, `${name}.wasm`))));
+const sum = (bytes) => createHash('sha256').update(bytes).digest('hex');
 const equal = (one, other) => Buffer.compare(Buffer.from(one), Buffer.from(other)) === 0;
 
 /** What the program answers. */
@@ -48,8 +50,10 @@ const [run, live] = [station('lr_run'), station('lr_live')];
 const drawn = fs.readdirSync(folder).filter((it) => it.startsWith('drawn'));
 const all = [...cases(), ...drawn.map((input) => ({ words: ['receive', ...CODE], input, shelf: 'empty.shelf' }))];
 let faults = 0;
+const answers = [];
 for (const one of all) {
   const wanted = programs(one);
+  answers.push({ ...one, status: wanted.status, out: sum(wanted.out), err: wanted.err, after: sum(wanted.shelf) });
   const ways = { lr_run: run.run(one.words, { input: file(one.input), shelf: file(one.shelf) }), lr_live: lives(live, one) };
   for (const [name, answer] of Object.entries(ways)) {
     const fault = differs(answer, wanted);
@@ -58,6 +62,7 @@ for (const one of all) {
     console.log(`${name}: ${one.words.join(' ')} of ${one.input} and ${one.shelf}: ${fault}`);
   }
 }
+fs.writeFileSync(path.join(folder, 'answers.json'), JSON.stringify(answers)); // (for the browsers)
 if (run.heap.used || live.heap.used) throw new Error('blocks are taken still');
 
 /** Refuses the n-th block, the first one that the module asks for being 0, for each n that is asked for. */
