@@ -53,6 +53,12 @@ class Retarget(unittest.TestCase):
         text = "  %r1 = add <32 x i16> %r0, %r0\n  switch i8 %r1, label %a [\n    i8 0, label %b\n  ]\n  ret void\n"
         self.assertIn(text, retargeted(HEAD + BODY + text, NAMES))
 
+    def test_what_only_keeps_an_order(self):
+        text = '  call void asm sideeffect "", "~{memory}"()\n'
+        self.assertIn(text, retargeted(HEAD + BODY + text, NAMES))
+        with self.assertRaisesRegex(Unknown, "has 'asm'"):
+            retargeted(HEAD + BODY + text.replace('""', '"nop"'), NAMES)
+
     def test_names_and_texts_may_be_anything(self):
         text = '@"x86::asm<4 x i32>" = constant [3 x i8] c"asm"\n'
         self.assertIn(text, retargeted(HEAD + text, NAMES))
