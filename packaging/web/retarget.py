@@ -41,8 +41,8 @@ LENGTHS, ELEMENTS = {"2", "4", "8", "16", "32", "64"}, {"i1", "i8", "i16", "i32"
 ORDER = '  call void asm sideeffect "", "~{memory}"()'
 # Instructions. Atomic ones are plain there, as the module's memory is of one thread.
 KNOWN = set(
-    "add alloca and ashr bitcast br call cmpxchg extractelement extractvalue fadd fcmp fdiv fmul fneg freeze fsub getelementptr"
-    " icmp insertelement insertvalue load lshr mul or phi ptrtoaddr ret sdiv select sext shl shufflevector sitofp srem"
+    "add alloca and ashr bitcast br call cmpxchg extractelement extractvalue fadd fcmp fdiv fmul fneg freeze fsub"
+    " getelementptr icmp insertelement insertvalue load lshr mul or phi ptrtoaddr ret sdiv select sext shl shufflevector sitofp srem"
     " store sub switch trunc udiv uitofp unreachable urem xor zext".split()
 )
 INSTRUCTION = re.compile(r"\s+(?:%[\w.$-]+ = )?(?:(?:tail|musttail|notail) )?(\w+)")

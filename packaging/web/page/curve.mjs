@@ -29,7 +29,8 @@ export function inWordsOf({ frames, lost, corrected }) {
   const whole = frames - lost;
   const mean = whole ? (corrected / whole).toFixed(1) : '0';
   const share = ((100 * lost) / frames).toFixed(lost && lost < frames / 100 ? 2 : 0);
-  return `Of ${frames} frames ${lost} were lost (${share} %). In each of the others ${mean} bytes were corrected on average, of at most ${LIMIT}.`;
+  const corrections = `In each of the others ${mean} bytes were corrected on average, of at most ${LIMIT}.`;
+  return `Of ${frames} frames ${lost} were lost (${share} %). ${corrections}`;
 }
 
 /**
@@ -48,9 +49,11 @@ export function curveOf(buckets, total) {
   buckets.forEach(({ frames, lost, corrected }, place) => {
     if (!frames) return;
     const x = LEFT + place * wide;
-    const tall = (high * lost) / frames;
-    if (lost) svg.append(shape('rect', { class: 'lost', x, y: HEIGHT - BOTTOM - tall, width: Math.max(1, wide), height: tall }));
-    if (frames > lost) points.push(`${x + wide / 2},${HEIGHT - BOTTOM - (high * Math.min(LIMIT, corrected / (frames - lost))) / LIMIT}`);
+    const height = (high * lost) / frames;
+    const bar = { class: 'lost', x, y: HEIGHT - BOTTOM - height, width: Math.max(1, wide), height };
+    if (lost) svg.append(shape('rect', bar));
+    const mean = Math.min(LIMIT, corrected / Math.max(1, frames - lost));
+    if (frames > lost) points.push(`${x + wide / 2},${HEIGHT - BOTTOM - (high * mean) / LIMIT}`);
   });
   svg.append(shape('polyline', { class: 'corrected', points: points.join(' ') }));
   svg.append(shape('line', { class: 'axis', x1: LEFT, y1: HEIGHT - BOTTOM, x2: right, y2: HEIGHT - BOTTOM }));
@@ -60,5 +63,6 @@ export function curveOf(buckets, total) {
   svg.append(shape('text', { x: LEFT, y: HEIGHT - 6 }, 'begin'));
   svg.append(shape('text', { x: right, y: HEIGHT - 6, 'text-anchor': 'end' }, 'end of the recording'));
   const legend = 'Line: bytes that were corrected in a frame, from 0 to 64. Bars: the share of frames that were lost.';
-  return [svg, element('p', { textContent: inWordsOf(total) }), element('p', { className: 'small', textContent: legend })];
+  const words = element('p', { textContent: inWordsOf(total) });
+  return [svg, words, element('p', { className: 'small', textContent: legend })];
 }

@@ -62,8 +62,14 @@ function scaling(width, read) {
 /** @type {Record<string, Form>} */
 export const FORMS = {
   signed: { says: 'signed bytes', unit: 1, gives: 1, input: 'symbols', turnFor: () => (bytes) => bytes },
-  unsigned: { says: 'unsigned bytes', unit: 1, gives: 1, input: 'symbols', turnFor: () => (bytes) => bytes.map((it) => it ^ 0x80) },
-  bits: { says: 'bits, a byte each', unit: 1, gives: 1, input: 'symbols', turnFor: () => (bytes) => bytes.map((it) => (it ? ONE : ZERO)) },
+  unsigned: {
+    says: 'unsigned bytes', unit: 1, gives: 1, input: 'symbols',
+    turnFor: () => (bytes) => bytes.map((it) => it ^ 0x80),
+  },
+  bits: {
+    says: 'bits, a byte each', unit: 1, gives: 1, input: 'symbols',
+    turnFor: () => (bytes) => bytes.map((it) => (it ? ONE : ZERO)),
+  },
   packed: { says: 'bits, eight a byte', unit: 1, gives: 8, input: 'symbols', turnFor: () => bitsOf },
   s16le: {
     says: 'integers of 16 bits, the low byte first', unit: 2, gives: 1, input: 'symbols',
@@ -81,7 +87,10 @@ export const FORMS = {
     says: 'floats of 32 bits, the high byte first', unit: 4, gives: 1, input: 'symbols',
     turnFor: scaling(4, (view, place) => view.getFloat32(place)),
   },
-  frames: { says: `frames of ${FRAME_BYTES} bytes`, unit: FRAME_BYTES, gives: FRAME_BYTES, input: 'frames', turnFor: () => (bytes) => bytes },
+  frames: {
+    says: `frames of ${FRAME_BYTES} bytes`, unit: FRAME_BYTES, gives: FRAME_BYTES, input: 'frames',
+    turnFor: () => (bytes) => bytes,
+  },
   cadu: {
     says: `frames of ${CADU_BYTES} bytes with their marker`, unit: CADU_BYTES, gives: FRAME_BYTES, input: 'frames',
     turnFor: () => framesOfCadus,

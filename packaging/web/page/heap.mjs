@@ -86,8 +86,8 @@ export class Heap {
   }
 
   /**
-   * A block of another size with the first bytes of an old one, which it is or which goes; 0 where there is none, and the
-   * old one stays.
+   * A block of another size with the first bytes of an old one, which it is or which goes; 0 where there is none, and
+   * the old one stays.
    * @param {number} place
    * @param {number} kept how many bytes of the old one are wanted
    * @param {number} bytes

@@ -1,5 +1,5 @@
-// The pixels of images on a shelf: those of the proved receiver's `export`, or of a JPEG, GIF or PNG by the browser; and
-// the segments of a picture put together.
+// The pixels of images on a shelf: those of the proved receiver's `export`, or of a JPEG, GIF or PNG by the browser;
+// and the segments of a picture put together.
 import { MOST_PIXELS } from './segments.mjs';
 import { shelfOf } from './shelf.mjs';
 import { pictureKind } from './texts.mjs';

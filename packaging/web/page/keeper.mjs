@@ -132,8 +132,9 @@ export class Keeper {
         from = performance.now();
       }
       if (this.run !== run) return;
-      await this.step();
+      await this.step().catch((fault) => this.tell({ kind: 'trouble', text: String(fault) }));
     }
+    if (this.run !== run) return;
     this.isBusy = false;
     const waiting = Math.max(0, this.groups.all.length - this.most);
     if (this.isEnding) this.tell({ kind: 'settled', files: this.heads.size - this.gone.size, waiting });
@@ -186,9 +187,12 @@ export class Keeper {
    * @param {import('./texts.mjs').Opened} it
    */
   tellOpened(file, member, it) {
-    const about = { number: file.number, member, name: [nameOf(file), it.name].filter(Boolean).join(' · '), stamp: stampText(file.header) };
+    const name = [nameOf(file), it.name].filter(Boolean).join(' · ');
+    const about = { number: file.number, member, name, stamp: stampText(file.header) };
     const kind = pictureKind(it.bytes);
-    if (kind && isReadable(it.bytes, kind.ending)) this.tell({ kind: 'sent', ...about, bytes: it.bytes, type: kind.type });
+    if (kind && isReadable(it.bytes, kind.ending)) {
+      this.tell({ kind: 'sent', ...about, bytes: it.bytes, type: kind.type });
+    }
     if (it.ending !== '.txt') return;
     const text = new TextDecoder().decode(it.bytes);
     const isCut = text.length > MOST_SHOWN_CHARACTERS;
@@ -230,7 +234,10 @@ export class Keeper {
   async drawn(group) {
     const about = { id: group.id, name: group.name, stamp: stampText(group.header), missing: inWords(group.missing) };
     const sent = this.asSent(group);
-    if (sent) return { kind: 'sent', ...about, number: sent.file.number, member: 0, bytes: sent.file.data, type: sent.kind.type };
+    if (sent) {
+      const { file, kind } = sent;
+      return { kind: 'sent', ...about, number: file.number, member: 0, bytes: file.data, type: kind.type };
+    }
     try {
       const picture = await this.picture(group);
       if (!picture) return { kind: 'picture', ...about, shown: null };
@@ -288,7 +295,8 @@ export class Keeper {
     const zip = new ZipWriter(new Date());
     for (const group of this.groups.all) {
       const saved = await this.savedPicture(group);
-      const files = saved ? [saved] : group.parts.map((part) => this.file(part.number)).flatMap((it) => (it ? [wholeOf(it)] : []));
+      const parts = saved ? [] : group.parts.map((part) => this.file(part.number));
+      const files = saved ? [saved] : parts.flatMap((it) => (it ? [wholeOf(it)] : []));
       for (const it of files) zip.add(it.name, it.bytes);
     }
     const inGroups = new Set(this.groups.all.flatMap((group) => group.parts.map((part) => part.number)));
@@ -376,8 +384,8 @@ function stampText(header) {
 
 /** @param {StoredFile} file */
 function aboutFile(file) {
-  const { number, channel, application, corrected, proper } = file;
-  return { kind: 'file', number, channel, application, corrected, size: proper.length, name: nameOf(file), stamp: stampText(file.header) };
+  const { number, corrected, proper, header } = file;
+  return { kind: 'file', number, corrected, size: proper.length, name: nameOf(file), stamp: stampText(header) };
 }
 
 /**

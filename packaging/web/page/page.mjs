@@ -7,7 +7,7 @@ import { View } from './view.mjs';
 
 const SAMPLE_WRONG = 8; // wrong bytes in each word of the sample
 const OLD_BROWSER =
-  "This browser can't run the receiver: it needs memory of 64 bits, as Chrome or Edge 133, Firefox 134, or newer have it.";
+  "This browser can't run the receiver: it needs memory of 64 bits, as Chrome or Edge 133, or Firefox 134, have it.";
 
 /**
  * @typedef {Record<string, any>} Message
@@ -99,7 +99,8 @@ class Page {
     this.clear();
     this.isSample = true;
     this.say('The sample is drawn …');
-    this.keeper.postMessage({ kind: 'transmit', shelf: bytesOfText(LENT.sample), files: LENT.files, wrong: SAMPLE_WRONG });
+    const shelf = bytesOfText(LENT.sample);
+    this.keeper.postMessage({ kind: 'transmit', shelf, files: LENT.files, wrong: SAMPLE_WRONG });
   }
 
   clear() {
@@ -181,6 +182,11 @@ class Page {
   }
 
   /** @param {Message} message */
+  hear_trouble({ text }) {
+    this.say(`A file can't be shown: ${text}`, true);
+  }
+
+  /** @param {Message} message */
   hear_sample({ bytes }) {
     this.startRecording(new Blob([bytes]));
   }
@@ -197,7 +203,9 @@ class Page {
   hear_which({ found }) {
     if (found) return this.receive(found);
     this.going(false);
-    const reason = this.file.size < TRIED_BYTES / 100 ? 'The file is very short.' : 'Perhaps it has other things in it, or the signal is too weak.';
+    const isShort = this.file.size < TRIED_BYTES / 100;
+    const other = 'Perhaps it has other things in it, or the signal is too weak.';
+    const reason = isShort ? 'The file is very short.' : other;
     return this.say(`Nothing that this receiver knows was found in the file. ${reason}`, true);
   }
 
@@ -209,7 +217,8 @@ class Page {
     const seconds = (performance.now() - this.began) / 1000;
     const left = Math.ceil(((size - read) * seconds) / Math.max(1, read));
     const share = Math.floor((100 * read) / Math.max(1, size));
-    const time = seconds < 1 ? '' : left > 90 ? `, about ${Math.round(left / 60)} minutes left` : `, about ${left} seconds left`;
+    const words = left > 90 ? `${Math.round(left / 60)} minutes` : `${left} seconds`;
+    const time = seconds < 1 ? '' : `, about ${words} left`;
     at('time').textContent = `${share} %${time}. Files so far: ${this.files}`;
   }
 
@@ -226,7 +235,8 @@ class Page {
   hear_opened({ status, err, bad }) {
     this.going(false);
     if (status !== 0 && status !== 12) this.say(`The shelf can't be opened: ${err}`, true);
-    else this.say(bad ? `The shelf is open. ${bad} of its files are damaged.` : 'The shelf is open, and each file is whole.');
+    else if (bad) this.say(`The shelf is open. ${bad} of its files are damaged.`);
+    else this.say('The shelf is open, and each file is whole.');
   }
 
   /** @param {Message} file */
@@ -279,11 +289,12 @@ function summaryOf(line) {
   /** @param {string} name */
   const after = (name) => words[words.indexOf(name) + 1];
   const files = Number(after('files'));
-  return `${after('restored')} of ${after('frames')} frames were restored, and ${files} ${files === 1 ? 'file' : 'files'} came.`;
+  const came = files === 1 ? '1 file came' : `${files} files came`;
+  return `${after('restored')} of ${after('frames')} frames were restored, and ${came}.`;
 }
 
 const page = new Page();
-for (const [name, { says }] of Object.entries(FORMS)) at('form').append(element('option', { value: name, textContent: says }));
+for (const [value, { says }] of Object.entries(FORMS)) at('form').append(element('option', { value, textContent: says }));
 at('sample').onclick = () => page.startSample();
 at('file').onchange = () => {
   const [file] = at('file').files;

@@ -6,8 +6,8 @@ const GREY = 0;
 const ROUNDING = 1e-6;
 
 /**
- * @typedef {object} Picture rows of bytes: one byte a pixel where a pixel has at most 8 bits, else two, most significant
- *   first
+ * @typedef {object} Picture rows of bytes: one byte a pixel where a pixel has at most 8 bits, else two, most
+ *   significant first
  * @property {number} bits
  * @property {number} columns
  * @property {number} lines
@@ -62,7 +62,9 @@ function chunk(name, inside) {
  */
 function rowsOf(pixels, row, lines) {
   const rows = new Uint8Array((row + 1) * lines);
-  for (let line = 0; line < lines; line += 1) rows.set(pixels.subarray(line * row, (line + 1) * row), line * (row + 1) + 1);
+  for (let line = 0; line < lines; line += 1) {
+    rows.set(pixels.subarray(line * row, (line + 1) * row), line * (row + 1) + 1);
+  }
   return rows;
 }
 
@@ -85,5 +87,6 @@ export async function pngOf(picture) {
   const packed = await through(rows, deflater(), Infinity);
   const isScaled = picture.bits !== 8 && picture.bits !== 16;
   const note = isScaled ? [chunk('sBIT', Uint8Array.of(picture.bits))] : [];
-  return joined([Uint8Array.from(SIGNATURE), chunk('IHDR', head), ...note, chunk('IDAT', packed), chunk('IEND', new Uint8Array(0))]);
+  const end = [chunk('IDAT', packed), chunk('IEND', new Uint8Array(0))];
+  return joined([Uint8Array.from(SIGNATURE), chunk('IHDR', head), ...note, ...end]);
 }

@@ -12,7 +12,8 @@ const TOLD_MILLISECONDS = 100; // between two words on how far it is
  * @typedef {import('./station.mjs').Station} Station
  * @typedef {import('./forms.mjs').Found} Found
  * @typedef {(message: Record<string, unknown>) => void} Tell
- * @typedef {{kind: 'write', place: number, bytes: Uint8Array} | {kind: 'cut', length: number} | {kind: 'shelved'}} Change
+ * @typedef {{kind: 'write', place: number, bytes: Uint8Array} | {kind: 'cut', length: number}
+ *   | {kind: 'shelved'}} Change
  */
 
 /** A shelf whose changes somebody hears. */

@@ -1,5 +1,5 @@
-// Which files are parts of one picture: the segment records of NOAA, of Himawari and GK-2A, and of ELEKTRO. Which form a
-// record has, its length says. What is joined is what the tool gomtasil joins; segments.json has cases for both.
+// Which files are parts of one picture: the segment records of NOAA, of Himawari and GK-2A, and of ELEKTRO. Which form
+// a record has, its length says. What is joined is what the tool gomtasil joins; segments.json has cases for both.
 import { nameOf } from './texts.mjs';
 import { KINDS, TYPES, firstOf, structureOf, viewOf } from './xrit.mjs';
 
@@ -55,7 +55,8 @@ function noaaSegment(found, whose) {
   const view = viewOf(found);
   const [image, number, left, top, total, columns, lines] = [0, 2, 4, 6, 8, 10, 12].map((it) => view.getUint16(it));
   if (!total) return null;
-  return { key: JSON.stringify([...whose, image, total, columns, lines]), number, total, left, top, columns, lines, first: 0 };
+  const key = JSON.stringify([...whose, image, total, columns, lines]);
+  return { key, number, total, left, top, columns, lines, first: 0 };
 }
 
 /**

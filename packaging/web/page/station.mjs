@@ -164,7 +164,8 @@ export class Station {
       const counts = take(COUNTS_BYTES);
       const words = [...given, rooms.calls, out, rooms.out, err, ERR_ROOM, kept, rooms.shelf, counts];
       const status = this.call('lr_run', words);
-      const sizes = status < NO_MEMORY ? Array.from(new BigUint64Array(this.memory.buffer, counts, 3), Number) : [0, 0, 0];
+      const isRun = status < NO_MEMORY;
+      const sizes = isRun ? Array.from(new BigUint64Array(this.memory.buffer, counts, 3), Number) : [0, 0, 0];
       /** @param {number} place @param {number} size */
       const copy = (place, size) => new Uint8Array(this.memory.buffer, place, size).slice();
       return {

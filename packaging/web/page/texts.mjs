@@ -59,7 +59,9 @@ function decoded(bytes) {
   } catch {
     // (the browser's latin-1 would be windows-1252)
     let text = '';
-    for (let at = 0; at < bytes.length; at += LOOKED_BYTES) text += String.fromCharCode(...bytes.subarray(at, at + LOOKED_BYTES));
+    for (let at = 0; at < bytes.length; at += LOOKED_BYTES) {
+      text += String.fromCharCode(...bytes.subarray(at, at + LOOKED_BYTES));
+    }
     return text;
   }
 }
@@ -108,7 +110,8 @@ export async function unzipped(bytes) {
   /** @type {Set<string>} */
   const names = new Set();
   return (await membersOf(bytes)).map((member) => {
-    const { ending, bytes: inside } = isZip(member.bytes) ? { ending: '.zip', bytes: member.bytes } : opened(member.bytes);
+    const whole = { ending: '.zip', bytes: member.bytes };
+    const { ending, bytes: inside } = isZip(member.bytes) ? whole : opened(member.bytes);
     const plain = safe(member.name) || 'file';
     const name = unused(plain.toLowerCase().endsWith(ending) ? plain : plain + ending, names);
     names.add(name);

@@ -1,5 +1,5 @@
-// What the page shows of a shelf: pictures, texts, and a table of files. Each list begins with a part, and more is shown
-// when it is asked for.
+// What the page shows of a shelf: pictures, texts, and a table of files. Each list begins with a part, and more is
+// shown when it is asked for.
 import { at, button, element } from './elements.mjs';
 
 const MOST = { texts: 40, files: 200 }; // that are shown until more is asked for
@@ -26,8 +26,11 @@ export class View {
   clear() {
     this.urls.forEach((url) => URL.revokeObjectURL(url));
     Object.assign(this, new View(this.ask));
-    for (const id of ['pictures', 'texts', 'files', 'quality', 'pictures-more', 'texts-more', 'files-more']) at(id).replaceChildren();
-    for (const id of ['pictures', 'texts', 'files', 'quality']) at(`${id}-section`).hidden = true;
+    for (const id of ['pictures-more', 'texts-more', 'files-more']) at(id).replaceChildren();
+    for (const id of ['pictures', 'texts', 'files', 'quality']) {
+      at(id).replaceChildren();
+      at(`${id}-section`).hidden = true;
+    }
   }
 
   /**
@@ -71,7 +74,8 @@ export class View {
 
   /** @param {Message} file */
   rowOf(file) {
-    const cells = [file.number, file.name, file.stamp, [file.what, file.note].filter(Boolean).join(': '), file.size, file.corrected];
+    const what = [file.what, file.note].filter(Boolean).join(': ');
+    const cells = [file.number, file.name, file.stamp, what, file.size, file.corrected];
     const row = element('tr', {}, ...cells.map((it) => element('td', { textContent: it ?? '' })));
     const saves = button('as it came', `Save file ${file.number} as it came`, () =>
       this.ask({ kind: 'saveFile', number: file.number, member: -1 }),
@@ -93,7 +97,8 @@ export class View {
     const pre = element('pre', { textContent: text.text, tabIndex: 0 });
     pre.setAttribute('aria-label', title);
     const ask = () => this.ask({ kind: 'saveFile', number: text.number, member: text.member });
-    box.append(element('p', { className: 'small', textContent: note }), pre, button('Save the text', `Save the text of ${title}`, ask));
+    const saves = button('Save the text', `Save the text of ${title}`, ask);
+    box.append(element('p', { className: 'small', textContent: note }), pre, saves);
     return box;
   }
 
@@ -102,10 +107,13 @@ export class View {
    * @param {Message} picture
    */
   picture(picture) {
-    const shown = picture.shown ? canvasOf(picture) : element('p', { textContent: 'No picture can be had of it here.' });
-    const words = [picture.name, picture.stamp, picture.columns ? `${picture.columns} × ${picture.lines}` : '', picture.note];
-    const caption = element('figcaption', {}, captionOf([...words, lacksOf(picture)]));
-    if (picture.shown) caption.append(button('Save as PNG', `Save the picture ${picture.name} as PNG`, () => this.ask({ kind: 'save', id: picture.id })));
+    const none = 'No picture can be had of it here.';
+    const shown = picture.shown ? canvasOf(picture) : element('p', { textContent: none });
+    const size = picture.columns ? `${picture.columns} × ${picture.lines}` : '';
+    const words = [picture.name, picture.stamp, size, picture.note, lacksOf(picture)];
+    const caption = element('figcaption', {}, captionOf(words));
+    const ask = () => this.ask({ kind: 'save', id: picture.id });
+    if (picture.shown) caption.append(button('Save as PNG', `Save the picture ${picture.name} as PNG`, ask));
     this.putFigure(picture.id, shown, caption);
   }
 
@@ -119,7 +127,8 @@ export class View {
     const image = element('img', { src: url, alt: `${sent.name}, as it was sent` });
     image.onerror = () => image.replaceWith(element('p', { textContent: "The browser can't read it." }));
     const caption = element('figcaption', {}, captionOf([sent.name, sent.stamp, 'as it was sent']));
-    const what = sent.id === undefined ? { kind: 'saveFile', number: sent.number, member: sent.member } : { kind: 'save', id: sent.id };
+    const { id, number, member } = sent;
+    const what = id === undefined ? { kind: 'saveFile', number, member } : { kind: 'save', id };
     caption.append(button('Save the picture', `Save the picture ${sent.name}`, () => this.ask(what)));
     this.putFigure(sent.id, image, caption);
   }

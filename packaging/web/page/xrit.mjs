@@ -1,6 +1,6 @@
 // The records of a mission file's header, as docs/FORMATS.md has them.
 
-export const KINDS = { primary: 0, structure: 1, annotation: 4, stamp: 5, text: 6, key: 7, segment: 128, lossless: 131 };
+export const KINDS = { primary: 0, structure: 1, annotation: 4, stamp: 5, key: 7, segment: 128, lossless: 131 };
 export const TYPES = { image: 0, gts: 1, text: 2 };
 const PRIMARY_BYTES = 16;
 const RECORD_BYTES = 3; // before what a record holds

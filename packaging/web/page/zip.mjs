@@ -242,8 +242,9 @@ export class ZipWriter {
     const local = fields([LOCAL, 4], [20, 2], ...sized(about), [0, 2]);
     this.parts.push(local, encoded, bytes);
     this.size += local.length + encoded.length + bytes.length;
-    const central = [[CENTRAL, 4], [20, 2], [20, 2], ...sized(about), [0, 2], [0, 2], [0, 2], [0, 2], [0, 4], [place, 4]];
-    this.list.push(fields(.../** @type {[number, number][]} */ (central)), encoded);
+    /** @type {[number, number][]} no extra, no remark, one disk, and no attributes */
+    const rest = [[0, 2], [0, 2], [0, 2], [0, 2], [0, 4], [place, 4]];
+    this.list.push(fields([CENTRAL, 4], [20, 2], [20, 2], ...sized(about), ...rest), encoded);
     if (this.size > MOST_WRITTEN || this.list.length / 2 > MOST_WRITTEN_FILES) {
       throw new RangeError('these files are too many, or too large, for one zip');
     }
