@@ -1,7 +1,7 @@
 #!/usr/bin/env python3
-"""bundle.py FOLDER VERSION PAGE: one page with all in it: the files of page/, the modules FOLDER/*.wasm, and the sample.
-It opens from a disk too, where a browser reads no second file. Its content security policy names the one style and the
-one script by their checksums, and no other place."""
+"""bundle.py FOLDER VERSION PAGE: one page with all in it: the files of page/, the modules FOLDER/*.wasm, and the
+sample. It opens from a disk too, where a browser reads no second file. Its content security policy names the one style
+and the one script by their checksums, and no other place."""
 
 from __future__ import annotations
 

@@ -25,14 +25,14 @@ GENERIC = re.compile(
 # Attributes of functions, with their values where they have one.
 OF_X86 = re.compile(r'"(probe-stack"="inline-asm|stack-probe-size"="\d+|target-cpu"="x86-64(-v2)?)" ?')
 ATTRIBUTES = set(
-    "alwaysinline cold inlinehint minsize mustprogress noalias nobuiltin nocallback nocreateundeforpoison nofree noinline"
-    " norecurse noreturn nosync nounwind optsize readnone readonly speculatable willreturn writeonly".split()
+    "alwaysinline cold inlinehint minsize mustprogress noalias nobuiltin nocallback nocreateundeforpoison nofree"
+    " noinline norecurse noreturn nosync nounwind optsize readnone readonly speculatable willreturn writeonly".split()
 )
 MEMORY = re.compile(r"memory\((none|read|write|readwrite|\w+: (none|read|write|readwrite)(, )?)+\)")
 # What is of x86 or rests on more than the target's names, wherever it stands.
 UNKNOWN = re.compile(
-    r"\b(asm|addrspace|thread_local|inttoptr|ptrtoint|x86_\w+|half|bfloat|ppc_fp128|fp128|vscale|callbr|invoke|landingpad"
-    r"|va_arg|ifunc|gc|comdat|section|partition|personality|prologue|prefix|fastcc|coldcc|\w+cc|cc\d+)\b"
+    r"\b(asm|addrspace|thread_local|inttoptr|ptrtoint|x86_\w+|half|bfloat|ppc_fp128|fp128|vscale|callbr|invoke"
+    r"|landingpad|va_arg|ifunc|gc|comdat|section|partition|personality|prologue|prefix|fastcc|coldcc|\w+cc|cc\d+)\b"
 )
 # Vectors are LLVM's own, of integers, and lie in memory in one order on both.
 VECTOR = re.compile(r"<\s*(\w+) x (\w+)")

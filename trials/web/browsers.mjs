@@ -1,5 +1,5 @@
-// Chromium and Firefox without a window, each by its own protocol: open a page, run a line in it, give it a file, click,
-// and take a picture of it. Each has a profile of its own, which goes with it.
+// Chromium and Firefox without a window, each by its own protocol: open a page, run a line in it, give it a file,
+// click, and take a picture of it. Each has a profile of its own, which goes with it.
 import { spawn } from 'node:child_process';
 import fs from 'node:fs';
 import net from 'node:net';
@@ -28,7 +28,8 @@ class Browser {
     for (const end = Date.now() + 1000 * seconds; Date.now() < end; await pause(STEP_MILLISECONDS)) {
       if (await this.evaluate(line)) return;
     }
-    throw new Error(`after ${seconds} s not yet: ${line}; ${await this.evaluate("document.getElementById('state').textContent")}`);
+    const state = await this.evaluate("document.getElementById('state').textContent");
+    throw new Error(`after ${seconds} s not yet: ${line}; ${state}`);
   }
 
   /**
@@ -64,8 +65,9 @@ export class Chromium extends Browser {
 
   static async start() {
     const it = new Chromium();
-    const words = ['--headless', '--no-sandbox', '--disable-gpu', '--remote-debugging-pipe', `--user-data-dir=${it.profile}`, '--window-size=1100,900'];
-    it.process = spawn('chromium', [...words, 'about:blank'], { stdio: ['ignore', 'ignore', 'ignore', 'pipe', 'pipe'] });
+    const plain = ['--headless', '--no-sandbox', '--disable-gpu', '--window-size=1100,900', 'about:blank'];
+    const words = ['--remote-debugging-pipe', `--user-data-dir=${it.profile}`, ...plain];
+    it.process = spawn('chromium', words, { stdio: ['ignore', 'ignore', 'ignore', 'pipe', 'pipe'] });
     it.waiting = new Map();
     it.sent = 0;
     it.listen(it.process.stdio[4]);
@@ -73,7 +75,8 @@ export class Chromium extends Browser {
     const { targetId } = await it.send('Target.createTarget', { url: 'about:blank' });
     it.session = (await it.send('Target.attachToTarget', { targetId, flatten: true })).sessionId;
     for (const domain of ['Page', 'Network', 'Runtime', 'Log']) await it.send(`${domain}.enable`, {}, it.session);
-    await it.send('Target.setAutoAttach', { autoAttach: true, waitForDebuggerOnStart: false, flatten: true }, it.session);
+    const attach = { autoAttach: true, waitForDebuggerOnStart: false, flatten: true };
+    await it.send('Target.setAutoAttach', attach, it.session);
     it.version = (await it.send('Browser.getVersion')).product;
     return it;
   }
@@ -95,12 +98,11 @@ export class Chromium extends Browser {
       else go(message.result);
       return;
     }
-    const { method, params, sessionId } = message;
+    const { method, params } = message;
     if (method === 'Target.attachedToTarget') this.send('Network.enable', {}, params.sessionId).catch(() => {});
     if (method === 'Network.requestWillBeSent') this.requests.push(params.request.url);
     if (method === 'Runtime.exceptionThrown') this.faults.push(JSON.stringify(params.exceptionDetails));
     if (method === 'Log.entryAdded' && params.entry.level === 'error') this.faults.push(params.entry.text);
-    void sessionId;
   }
 
   send(method, params = {}, sessionId = undefined) {
@@ -137,7 +139,8 @@ export class Chromium extends Browser {
   async key(key, code) {
     for (const type of ['keyDown', 'keyUp']) {
       const text = key === 'Enter' ? '\r' : undefined;
-      await this.send('Input.dispatchKeyEvent', { type, key, code: key, windowsVirtualKeyCode: code, text }, this.session);
+      const event = { type, key, code: key, windowsVirtualKeyCode: code, text };
+      await this.send('Input.dispatchKeyEvent', event, this.session);
     }
   }
 
@@ -178,12 +181,13 @@ export class Firefox extends Browser {
       'datareporting.policy.dataSubmissionEnabled': false,
       'toolkit.telemetry.reportingpolicy.firstRun': false,
     };
-    const lines = Object.entries(preferences).map(([name, value]) => `user_pref(${JSON.stringify(name)}, ${JSON.stringify(value)});`);
+    const line = (words) => `user_pref(${words.map((it) => JSON.stringify(it)).join(', ')});`;
+    const lines = Object.entries(preferences).map(line);
     fs.writeFileSync(path.join(it.profile, 'user.js'), lines.join('\n'));
     const words = ['--marionette', '--headless', '--no-remote', '--profile', it.profile];
-    it.process = spawn('firefox-esr', words, { stdio: 'ignore', env: { ...process.env, HOME: it.profile, MOZ_REMOTE_SETTINGS_DEVTOOLS: '1' } });
+    it.process = spawn('firefox-esr', words, { stdio: 'ignore', env: { ...process.env, HOME: it.profile } });
     await it.connect(port);
-    const { capabilities } = await it.send('WebDriver:NewSession', { capabilities: { alwaysMatch: { acceptInsecureCerts: true } } });
+    const { capabilities } = await it.send('WebDriver:NewSession', { capabilities: { alwaysMatch: {} } });
     it.version = `Firefox/${capabilities.browserVersion}`;
     return it;
   }
@@ -245,8 +249,9 @@ export class Firefox extends Browser {
   }
 
   async evaluate(line) {
-    const script = `const [done] = arguments; Promise.resolve(eval(${JSON.stringify(line)})).then(done, (fault) => done('fault: ' + fault));`;
-    return (await this.send('WebDriver:ExecuteAsyncScript', { script, args: [], sandbox: 'system' in this ? null : undefined })).value;
+    const answer = `Promise.resolve(eval(${JSON.stringify(line)})).then(done, (fault) => done('fault: ' + fault));`;
+    const script = `const [done] = arguments; ${answer}`;
+    return (await this.send('WebDriver:ExecuteAsyncScript', { script, args: [] })).value;
   }
 
   async find(selector) {

@@ -16,23 +16,31 @@ export function cases() {
   const add = (words, shelf = 'my.shelf', input = 'none') => found.push({ words, input, shelf });
   for (const words of [['list'], ['verify'], ['render'], ['render', '--workers', '3']]) add(words);
   for (const number of NUMBERS) for (const name of ['show', 'extract', 'export']) add([name, String(number)]);
-  for (const words of [['assemble', '0', '6', '313', '1'], ['assemble', '0', '2', '313', '1'], ['assemble', '0', '6', '9', '1']]) add(words);
+  for (const words of ['0 6 313 1', '0 2 313 1', '0 6 9 1']) add(['assemble', ...words.split(' ')]);
   for (const block of ['8', '16', '32', '64', '9']) add(['repack', '1', block]);
-  for (const words of [['discard', '2'], ['discard', '9'], ['init', '5'], ['init', '1000000'], ['nonsense'], ['show'], ['show', '1', '2'], ['']]) add(words);
+  for (const words of ['discard 2', 'discard 9', 'init 5', 'init 1000000', 'nonsense', 'show', 'show 1 2', '']) {
+    add(words.split(' '));
+  }
   for (const name of RECORDINGS) {
     add(['decode', ...CODE], 'none', name);
     add(['receive', ...CODE], 'empty.shelf', name);
     add(['receive', ...CODE, '--workers', '3', '--symbols', '3000000'], 'my.shelf', name);
   }
-  for (const line of ['nrz-l', 'nrz-m']) for (const g2 of ['inverted', 'plain']) add(['decode', '--line', line, '--g2', g2], 'none', 'cut');
-  for (const shelf of ['empty.shelf', 'small.shelf', 'none', 'damaged.shelf']) add(['receive', '--input', 'frames'], shelf, 'frames');
-  for (const words of [['frames'], ['packets'], ['frames', '--symbols', '5000'], ['decode', '--input', 'blocks']]) add(words, 'none', 'frames');
+  for (const line of ['nrz-l', 'nrz-m']) {
+    for (const g2 of ['inverted', 'plain']) add(['decode', '--line', line, '--g2', g2], 'none', 'cut');
+  }
+  for (const shelf of ['empty.shelf', 'small.shelf', 'none', 'damaged.shelf']) {
+    add(['receive', '--input', 'frames'], shelf, 'frames');
+  }
+  for (const words of ['frames', 'packets', 'frames --symbols 5000', 'decode --input blocks']) {
+    add(words.split(' '), 'none', 'frames');
+  }
   for (const name of ['list', 'verify', 'render', 'show']) add(name === 'show' ? [name, '3'] : [name], 'damaged.shelf');
   for (const name of ['list', 'verify']) for (const shelf of ['none', 'garbage']) add([name], shelf);
-  for (const words of [['init', '20'], ['init', '1099511627776'], ['init', '1099511627777'], ['init', '12', '13']]) add(words, 'none');
+  for (const words of ['20', '1099511627776', '1099511627777', '12 13']) add(['init', ...words.split(' ')], 'none');
   for (const wrong of ['0', '8', '16', '17']) add(['transmit', '0', '3', wrong, ...CODE]);
   add(['transmit', '5', '9', '0']);
   for (const form of ['symbols', 'blocks', 'frames']) add(['make', '3', '20', '5', '--output', form], 'none');
-  for (const words of [['trial', '1', '64', '3'], ['trial', '1', '64', '16', '--workers', '2'], ['trial', '1', '2000', '0']]) add(words, 'none');
+  for (const words of ['1 64 3', '1 64 16 --workers 2', '1 2000 0']) add(['trial', ...words.split(' ')], 'none');
   return found;
 }

@@ -127,9 +127,8 @@ def hostile() -> None:
     ]
     items = [made.added(number, it) for number, it in enumerate(inside)]
     write("hostile.shelf", made.shelf_of(items))
-    begin = len(items)
     parts = (
-        made.added(begin + it, made.image(8, 1, 1, bytes([it % 256]), more=[made.noaa(9, it, it, SEGMENTS, 1, SEGMENTS)]))
+        made.added(it, made.image(8, 1, 1, bytes([it % 256]), more=[made.noaa(9, it, it, SEGMENTS, 1, SEGMENTS)]))
         for it in range(SEGMENTS)
     )
     write("segments.shelf", made.shelf_of(list(parts)))

@@ -1,11 +1,15 @@
 // Within the page, after the host of the modules: runs one command by both modules over files of an element.
 const given = new Map([...document.getElementById('lent-files').files].map((it) => [it.name, it]));
 const lent = JSON.parse(document.getElementById('lent').textContent).modules;
+const decoded = (text) => Uint8Array.from(atob(text), (it) => it.charCodeAt(0));
 const stations = Object.fromEntries(
-  Object.entries(lent).map(([name, text]) => [name, WebAssembly.compile(Uint8Array.from(atob(text), (it) => it.charCodeAt(0)))]),
+  Object.entries(lent).map(([name, text]) => [name, WebAssembly.compile(decoded(text))]),
 );
 const bytes = async (name) => new Uint8Array(await given.get(name).arrayBuffer());
-const sum = async (it) => [...new Uint8Array(await crypto.subtle.digest('SHA-256', it))].map((byte) => byte.toString(16).padStart(2, '0')).join('');
+const sum = async (it) => {
+  const digest = new Uint8Array(await crypto.subtle.digest('SHA-256', it));
+  return [...digest].map((byte) => byte.toString(16).padStart(2, '0')).join('');
+};
 const whole = (parts) => new Blob(parts).arrayBuffer();
 
 window.runBoth = async ({ words, input, shelf }) => {

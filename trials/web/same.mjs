@@ -1,6 +1,6 @@
 // node --experimental-wasm-memory64 same.mjs PROGRAM FOLDER MODULES: every command of cases.mjs, and FOLDER's drawn
-// recordings, by the program over files, by lr_run over bytes, and by lr_live over devices: the status, what is put, the
-// line on why it ended, and the bytes of the shelf. Then memory is refused at each block in turn.
+// recordings, by the program over files, by lr_run over bytes, and by lr_live over devices: the status, what is put,
+// the line on why it ended, and the bytes of the shelf. Then memory is refused at each block in turn.
 import { spawnSync } from 'node:child_process';
 import { createHash } from 'node:crypto';
 import fs from 'node:fs';
@@ -33,7 +33,8 @@ function programs({ words, input, shelf }) {
 function lives(station, { words, input, shelf }) {
   const outputs = { 1: [], 2: [] };
   const kept = new MemoryShelf(file(shelf));
-  const devices = { input: new BytesInput(file(input)), shelf: kept, put: (output, bytes) => outputs[output].push(bytes) };
+  const put = (output, bytes) => outputs[output].push(bytes);
+  const devices = { input: new BytesInput(file(input)), shelf: kept, put };
   const status = station.live(words, devices);
   return { status, out: joined(outputs[1]), err: new TextDecoder().decode(joined(outputs[2])), shelf: kept.all() };
 }
@@ -54,7 +55,8 @@ const answers = [];
 for (const one of all) {
   const wanted = programs(one);
   answers.push({ ...one, status: wanted.status, out: sum(wanted.out), err: wanted.err, after: sum(wanted.shelf) });
-  const ways = { lr_run: run.run(one.words, { input: file(one.input), shelf: file(one.shelf) }), lr_live: lives(live, one) };
+  const over = { input: file(one.input), shelf: file(one.shelf) };
+  const ways = { lr_run: run.run(one.words, over), lr_live: lives(live, one) };
   for (const [name, answer] of Object.entries(ways)) {
     const fault = differs(answer, wanted);
     if (!fault) continue;
@@ -78,8 +80,9 @@ function refuse(name, call) {
     const answer = call(it);
     if (heap.used) throw new Error(`${name}: a block is left where block ${place} was refused`);
     if (asked <= place) return place;
-    const isSaid = answer.status === NO_MEMORY || (answer.status === NO_MEMORY_STATUS && answer.err === 'station: no memory\n');
-    if (!isSaid && answer.status !== 0) throw new Error(`${name}: block ${place} refused: ${answer.status} ${answer.err}`);
+    const { status, err } = answer;
+    const isSaid = status === NO_MEMORY || (status === NO_MEMORY_STATUS && err === 'station: no memory\n');
+    if (!isSaid && status !== 0) throw new Error(`${name}: block ${place} refused: ${status} ${err}`);
   }
   throw new Error('so many blocks are asked for');
 }
@@ -88,6 +91,7 @@ const blocks = [
   refuse('lr_run', (it) => it.run(small.words, { input: file(small.input), shelf: file(small.shelf) })),
   refuse('lr_live', (it) => lives(it, small)),
 ];
-console.log(`${all.length} commands, ${drawn.length} of them over drawn recordings, by lr_run and lr_live: ${2 * all.length - faults} as the program, ${faults} not`);
+const ways = `${2 * all.length - faults} as the program, ${faults} not`;
+console.log(`${all.length} commands, ${drawn.length} of them over drawn recordings, by lr_run and lr_live: ${ways}`);
 console.log(`memory was refused at each of ${blocks.join(' and ')} blocks`);
 process.exit(faults ? 1 : 0);

@@ -294,7 +294,9 @@ function summaryOf(line) {
 }
 
 const page = new Page();
-for (const [value, { says }] of Object.entries(FORMS)) at('form').append(element('option', { value, textContent: says }));
+for (const [value, { says }] of Object.entries(FORMS)) {
+  at('form').append(element('option', { value, textContent: says }));
+}
 at('sample').onclick = () => page.startSample();
 at('file').onchange = () => {
   const [file] = at('file').files;
