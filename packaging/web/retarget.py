@@ -42,8 +42,8 @@ ORDER = '  call void asm sideeffect "", "~{memory}"()'
 # Instructions. Atomic ones are plain there, as the module's memory is of one thread.
 KNOWN = set(
     "add alloca and ashr bitcast br call cmpxchg extractelement extractvalue fadd fcmp fdiv fmul fneg freeze fsub"
-    " getelementptr icmp insertelement insertvalue load lshr mul or phi ptrtoaddr ret sdiv select sext shl shufflevector sitofp srem"
-    " store sub switch trunc udiv uitofp unreachable urem xor zext".split()
+    " getelementptr icmp insertelement insertvalue load lshr mul or phi ptrtoaddr ret sdiv select sext shl"
+    " shufflevector sitofp srem store sub switch trunc udiv uitofp unreachable urem xor zext".split()
 )
 INSTRUCTION = re.compile(r"\s+(?:%[\w.$-]+ = )?(?:(?:tail|musttail|notail) )?(\w+)")
 CHOICE = re.compile(r"\s+(i\d+ -?\d+, label %\S+|\])$")  # of a switch

@@ -137,7 +137,9 @@ async function hostile(browser) {
   check((await browser.evaluate('document.title')) === 'Weather satellite receiver', 'no script of a file ran');
   check((await countOf(browser, '#results img[src=x], #results script, #results b')) === 0, 'there is no markup');
   await says(browser, /<img src=x/, 'texts');
-  for (const words of [/too large when it is unpacked/, /too many files/, /can't be read/]) await says(browser, words, 'files');
+  for (const words of [/too large when it is unpacked/, /too many files/, /can't be read/]) {
+    await says(browser, words, 'files');
+  }
   await says(browser, /No picture can be had/, 'pictures');
   await given(browser, place('segments.shelf'), 400);
   await says(browser, /1 × 65535[^m]*$/, 'pictures');
@@ -223,7 +225,8 @@ async function served(browser) {
 function hostScript() {
   const inside = fs.readFileSync(new URL('inside.js', import.meta.url), 'utf8');
   const packaging = new URL('../../packaging/web/', import.meta.url).pathname;
-  const line = "import bundle; seen = set(); print(bundle.script('station.mjs', seen) + bundle.script('devices.mjs', seen))";
+  const both = "bundle.script('station.mjs', seen) + bundle.script('devices.mjs', seen)";
+  const line = `import bundle; seen = set(); print(${both})`;
   const done = spawnSync('python3', ['-c', line], { env: { ...process.env, PYTHONPATH: packaging } });
   if (done.status !== 0) throw new Error(done.stderr.toString());
   return `(() => { ${done.stdout}\n${inside} })()`;

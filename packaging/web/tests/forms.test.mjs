@@ -7,10 +7,14 @@ import { inWordsOf } from '../page/curve.mjs';
 import { Heap } from '../page/heap.mjs';
 import { textOf } from '../page/station.mjs';
 
-const turned = (form, bytes) => [...new Int8Array(FORMS[form].turnFor(Uint8Array.from(bytes))(Uint8Array.from(bytes)).buffer)];
+const turned = (form, list) => {
+  const bytes = Uint8Array.from(list);
+  return [...new Int8Array(FORMS[form].turnFor(bytes)(bytes).buffer)];
+};
 
 test('the four line codes', () => {
-  assert.deepEqual(CODES.map((it) => `${it.line} ${it.g2}`), ['nrz-l inverted', 'nrz-l plain', 'nrz-m inverted', 'nrz-m plain']);
+  const words = CODES.map((it) => `${it.line} ${it.g2}`);
+  assert.deepEqual(words, ['nrz-l inverted', 'nrz-l plain', 'nrz-m inverted', 'nrz-m plain']);
 });
 
 test('each form becomes signed bytes', () => {
@@ -59,7 +63,8 @@ test('the words of a found form', () => {
 const locking = (code, first) => ({
   run: (words, { input }) => {
     const locks = words[2] === code.line && words[4] === code.g2 && input[0] === first;
-    return { out: new TextEncoder().encode(`window 0 at 0 polarity + ${locks ? 'restored 0 1 2 3' : 'lost 0'}\nsymbols 1 frames 1\n`) };
+    const outcome = locks ? 'restored 0 1 2 3' : 'lost 0';
+    return { out: new TextEncoder().encode(`window 0 at 0 polarity + ${outcome}\nsymbols 1 frames 1\n`) };
   },
 });
 
@@ -71,7 +76,8 @@ test('the code that locks is found, and each try is told', () => {
   assert.deepEqual(found, { form: 'signed', code: CODES[2] });
   assert.equal(told.length, 4);
   assert.deepEqual(told.map((it) => it.restored), [0, 0, 1, 0]);
-  assert.deepEqual(which(locking(CODES[0], 5 ^ 0x80), bytes.length, read, () => {}), { form: 'unsigned', code: CODES[0] });
+  const flipped = which(locking(CODES[0], 5 ^ 0x80), bytes.length, read, () => {});
+  assert.deepEqual(flipped, { form: 'unsigned', code: CODES[0] });
   assert.equal(which(locking(CODES[0], 99), bytes.length, read, () => {}), null);
   assert.equal(which(locking(CODES[0], 99), 0, () => new Uint8Array(0), () => {}), null, 'an empty file');
 });

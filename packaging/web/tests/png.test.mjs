@@ -25,7 +25,8 @@ test('8 bits', async () => {
   assert.equal(IHDR.toString('hex'), '00000003000000020800000000');
   assert.equal(zlib.inflateSync(IDAT).toString('hex'), '000001ff00070809');
   assert.equal(sBIT, undefined);
-  assert.equal(Buffer.from(png.subarray(-12)).toString('hex'), '0000000049454e44ae426082', 'the last chunk, as its document has it');
+  const last = Buffer.from(png.subarray(-12)).toString('hex');
+  assert.equal(last, '0000000049454e44ae426082', 'the last chunk, as its document has it');
 });
 
 test('10 bits are scaled to 16, and it is said', async () => {
@@ -40,9 +41,11 @@ test('each depth: 0 stays, the greatest value is the greatest one, and none is t
   for (let bits = 1; bits <= 16; bits += 1) {
     const wide = bits > 8 ? 2 : 1;
     const count = 2 ** bits;
-    const pixels = Uint8Array.from({ length: wide * count }, (_, at) => (wide === 1 ? at : at % 2 ? (at >> 1) & 255 : at >> 9));
+    const pixel = (at) => (at % 2 ? (at >> 1) & 255 : at >> 9);
+    const pixels = Uint8Array.from({ length: wide * count }, (_, at) => (wide === 1 ? at : pixel(at)));
     const out = scaled({ bits, columns: count, lines: 1, pixels });
-    const values = Array.from({ length: count }, (_, at) => (wide === 1 ? out[at] : out[2 * at] * 256 + out[2 * at + 1]));
+    const value = (at) => (wide === 1 ? out[at] : out[2 * at] * 256 + out[2 * at + 1]);
+    const values = Array.from({ length: count }, (_, at) => value(at));
     assert.deepEqual([values[0], values.at(-1)], [0, wide === 1 ? 255 : 65535], `${bits} bits`);
     assert.equal(new Set(values).size, count);
   }
@@ -54,12 +57,14 @@ test('a PGM', () => {
 });
 
 test('a large picture is shown smaller', () => {
-  const { columns, lines, grey } = shown({ bits: 8, columns: 5, lines: 3, pixels: Uint8Array.from({ length: 15 }, (_, it) => it) }, 3);
+  const pixels = Uint8Array.from({ length: 15 }, (_, it) => it);
+  const { columns, lines, grey } = shown({ bits: 8, columns: 5, lines: 3, pixels }, 3);
   assert.deepEqual([columns, lines, ...grey], [3, 2, 0, 2, 4, 10, 12, 14]);
 });
 
 test('sizes that pictures say', () => {
-  const jpeg = Uint8Array.from(Buffer.from('ffd8ffe000104a46494600010100000100010000ffc0000b080010002001011100', 'hex'));
+  const text = 'ffd8ffe000104a46494600010100000100010000ffc0000b080010002001011100';
+  const jpeg = Uint8Array.from(Buffer.from(text, 'hex'));
   assert.deepEqual(sizeOf(jpeg, '.jpg'), { columns: 32, lines: 16 });
   assert.deepEqual(sizeOf(Uint8Array.from([...bytesOf('GIF89a'), 1, 2, 3, 0]), '.gif'), { columns: 513, lines: 3 });
   const huge = Uint8Array.from(Buffer.from('89504e470d0a1a0a0000000d49484452ffffffffffffffff0800000000', 'hex'));

@@ -7,7 +7,8 @@ import { bytesOf, itemOf, missionFile, shelfBytes } from './support.mjs';
 
 const FORMATS = // the shelf of docs/FORMATS.md, byte by byte
   '5A4C525348454C4602 0000000000000064 E053 01 8000 0064 00000001 0000001A' +
-  ' 000000000000000000000000000000000000000000000000 001A 00070000000000000088 00001002000000100000000000000000 3B39 00';
+  ' 000000000000000000000000000000000000000000000000 001A 00070000000000000088' +
+  ' 00001002000000100000000000000000 3B39 00';
 const WANTED = Uint8Array.from(Buffer.from(FORMATS.replace(/ /g, ''), 'hex'));
 
 const heads = (bytes) => [...headsOf(new MemoryShelf(bytes))];
@@ -35,7 +36,9 @@ test('each changed byte is found, or changes no file', () => {
 });
 
 test('each front of it is read, and has no file that is not whole', () => {
-  for (let size = 0; size < WANTED.length; size += 1) assert.deepEqual(heads(WANTED.slice(0, size)), [], `${size} bytes`);
+  for (let size = 0; size < WANTED.length; size += 1) {
+    assert.deepEqual(heads(WANTED.slice(0, size)), [], `${size} bytes`);
+  }
 });
 
 test('old items, and discards', () => {

@@ -82,8 +82,10 @@ export class PlainStation {
     const [bits, columns, lines] = [proper[19], proper[20] * 256 + proper[21], proper[22] * 256 + proper[23]];
     const text = [...proper.subarray(start)].map((it) => it.toString(2).padStart(8, '0')).join('');
     if (text.length < columns * lines * bits) return failed;
-    const values = Array.from({ length: columns * lines }, (_, at) => parseInt(text.slice(at * bits, (at + 1) * bits), 2));
+    const value = (at) => parseInt(text.slice(at * bits, (at + 1) * bits), 2);
+    const values = Array.from({ length: columns * lines }, (_, at) => value(at));
     const pixels = values.flatMap((it) => (bits > 8 ? big(it, 2) : [it]));
-    return { status: 0, out: Uint8Array.from([...bytesOf(`P5\n${columns} ${lines}\n${2 ** bits - 1}\n`), ...pixels]), err: '' };
+    const head = bytesOf(`P5\n${columns} ${lines}\n${2 ** bits - 1}\n`);
+    return { status: 0, out: Uint8Array.from([...head, ...pixels]), err: '' };
   }
 }

@@ -25,7 +25,8 @@ function zipped(files, change = {}) {
     about.writeUInt32LE(packed.length, 12);
     about.writeUInt32LE(change.size ?? data.length, 16);
     about.writeUInt16LE(Buffer.byteLength(name), 20);
-    const local = Buffer.concat([Buffer.from('504b03041400', 'hex'), about, Buffer.alloc(2), Buffer.from(name), packed]);
+    const head = Buffer.from('504b03041400', 'hex');
+    const local = Buffer.concat([head, about, Buffer.alloc(2), Buffer.from(name), packed]);
     const tail = Buffer.alloc(16);
     tail.writeUInt32LE((change.mode ?? 0) * 65536, 8);
     tail.writeUInt32LE(place, 12);
@@ -79,7 +80,8 @@ test('names stay in their folder, and are no options', () => {
 });
 
 test('the files of a zip, with names of their own', async () => {
-  const files = await unzipped(zipped([['../A.TXT', bytesOf('text\r\n')], ['../A.TXT', [1, 0]], ['d/', []], ['b', bytesOf('PK\x03\x04x')]]));
+  const twice = [['../A.TXT', bytesOf('text\r\n')], ['../A.TXT', [1, 0]]];
+  const files = await unzipped(zipped([...twice, ['d/', []], ['b', bytesOf('PK\x03\x04x')]]));
   assert.deepEqual(files.map((it) => it.name), ['_._A.TXT', '_._A.TXT.bin', 'b.zip']);
   assert.equal(text(files[0].bytes), 'text\n');
 });
