@@ -90,11 +90,24 @@ fill_programs() {
     fi
 }
 
+# The library for C and Python, where it was made for this architecture, in a folder of its own that its .pc file names.
+fill_library() {
+    library=${LIBRARY:-$top/out/library}
+    if [ "$architecture" = arm64 ] || [ ! -f "$library/liblritstation.so.1" ]; then
+        echo "${0##*/}: without the library: packaging/library.sh makes it, for amd64" >&2
+        return
+    fi
+    for name in liblritstation.a liblritstation.so.1 lritstation.h lritstation.pc; do
+        put 644 "$library/$name" "lib/gomtasil/library/$name" || return 1
+    done
+    ln -s liblritstation.so.1 "$tree/lib/gomtasil/library/liblritstation.so"
+}
+
 # fill TREE ZSH: what both packages have, under the folder TREE; ZSH is the folder of zsh's functions there
 fill() {
     tree=$1
     put 755 "$top/packaging/lritstation" bin/lritstation || return 1
-    fill_programs || return 1
+    fill_programs && fill_library || return 1
     for example in "$top/examples/"*.sh "$top/examples/"*.py; do
         # (what others read is no program of its own, and has no `#!`)
         mode=755

@@ -4,7 +4,8 @@
 # nothing runs when the package is installed. The same commit and programs give the same bytes.
 # Usage: packaging/debian.sh [FOLDER [ARCHITECTURE]], by default the folder out, and amd64; arm64 is the other one.
 # Needs dpkg-deb, python3 and git. $LRITSTATION may name the built program; the one for x86-64-v3 stands beside it,
-# with -v3 after its name, and the one for arm64, as packaging/arm64.sh makes it, with -arm64.
+# with -v3 after its name, and the one for arm64, as packaging/arm64.sh makes it, with -arm64. $LIBRARY may name the folder
+# of the library that packaging/library.sh made, by default out/library; where there is none the package is without it.
 top=$(cd -- "$(dirname -- "$0")/.." && pwd) || exit 1
 # shellcheck source-path=SCRIPTDIR source=common.sh
 . "$top/packaging/common.sh"
@@ -21,8 +22,8 @@ units() {
 # (the programs keep the bytes that were tried, so they aren't stripped)
 overrides() {
     mkdir -p "$tree/share/lintian/overrides" || return 1
-    for name in "$tree/lib/gomtasil/"*; do
-        echo "gomtasil: unstripped-binary-or-object [usr/lib/gomtasil/${name##*/}]"
+    for name in "$tree/lib/gomtasil/"lritstation-* "$tree/lib/gomtasil/library/"*.so.1; do
+        [ ! -f "$name" ] || echo "gomtasil: unstripped-binary-or-object [usr${name#"$tree"}]"
     done > "$tree/share/lintian/overrides/gomtasil"
 }
 

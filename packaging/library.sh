@@ -1,8 +1,9 @@
 #!/bin/sh
 # Makes the station as a library for C, and for all that can call C: FOLDER/liblritstation.a and .so.1 with the link .so,
 # lritstation.h and lritstation.pc, and says the folder. As ./lritstation does, it has rt ci prove a copy of the crates
-# below, which keeps what it proved, and proves lr_embed; what was proved is compiled and linked by the kit's tools. The
-# archive has what it needs of the kit in it. The same commit gives the same bytes.
+# below, which keeps what it proved, and proves lr_embed (lr_run) and lr_live, which stands outside of crates/ and which
+# devices.c leads to functions of the caller (lr_run_over). What was proved is compiled and linked by the kit's tools.
+# The archive has what it needs of the kit in it. The same commit gives the same bytes.
 # Usage: packaging/library.sh [FOLDER], by default the folder out/library. Needs rt and glibc.
 # shellcheck disable=SC2034,SC2154 # (some are set in what is read, and some used there)
 top=$(cd -- "$(dirname -- "$0")/.." && pwd) || exit 1
@@ -11,8 +12,8 @@ crate=lr_embed
 root=src/lib.rt
 product=library
 mkdir -p -- "${1:-$top/out/library}" || exit 1
-folder=$(cd -- "${1:-$top/out/library}" && pwd) || exit 1
-program=$folder/liblritstation
+library=$(cd -- "${1:-$top/out/library}" && pwd) || exit 1
+program=$library/liblritstation
 # shellcheck source-path=SCRIPTDIR source=proving.sh
 . "$top/packaging/proving.sh" || exit 1
 
@@ -21,7 +22,7 @@ fail() {
     exit 1
 }
 
-# Proves the crate, and compiles what was proved as $made/station.a.
+# Proves the crate, and compiles what was proved as $scratch/NAME.a, NAME being the crate's.
 compile() {
     with_words "$kit/toolchain" "$kit/bin/rattle" build --crate-type staticlib -o "$made/station.a"
     if [ ! -f "$made/station.a" ] || ! grep -q '^logic=proved ' "$scratch/log"; then
@@ -29,16 +30,27 @@ compile() {
         return 1
     fi
     grep '^logic=proved ' "$scratch/log" >&2
+    cp "$made/station.a" "$scratch/$crate.a"
 }
 
-# Links both libraries. The one to load shows lr_run alone.
+# Compiles what leads to the functions of the caller. (In its folder, so its path is in no byte.)
+compile_devices() {
+    (cd "$top/packaging" && "$kit/toolchain/bin/clang" --target=x86_64-unknown-linux-gnu -std=c11 -O2 -fPIC \
+        -ftls-model=initial-exec -Wall -Wextra -Werror -ffreestanding -isystem headers -c devices.c \
+        -o "$scratch/devices.o")
+}
+
+# Links both libraries. The one to load shows lr_run and lr_run_over alone.
 link_both() {
     tools=$kit/toolchain/bin
     heap=$kit/c/liblibc_c.a
-    cp "$made/station.a" "$made/liblritstation.a" && "$tools/llvm-ar" qL "$made/liblritstation.a" "$heap" || return 1
-    echo '{ global: lr_run; local: *; };' > "$made/shown"
-    "$tools/ld.lld" -shared -soname liblritstation.so.1 --version-script="$made/shown" -z now -z relro --gc-sections \
-        --whole-archive "$made/station.a" --no-whole-archive "$heap" "$(libc)" -o "$made/liblritstation.so.1"
+    both="$scratch/lr_embed.a $scratch/lr_live.a"
+    echo '{ global: lr_run; lr_run_over; local: *; };' > "$scratch/shown"
+    # shellcheck disable=SC2086 # (they are two)
+    "$tools/llvm-ar" qLD "$scratch/liblritstation.a" $both "$scratch/devices.o" "$heap" &&
+        "$tools/ld.lld" -shared -soname liblritstation.so.1 --version-script="$scratch/shown" -z now -z relro \
+            --gc-sections --whole-archive $both --no-whole-archive "$scratch/devices.o" "$heap" "$(libc)" \
+            -o "$scratch/liblritstation.so.1"
 }
 
 # The C library that is loaded here.
@@ -61,9 +73,11 @@ command -v rt > /dev/null || fail "rt is missing: it comes with the kit"
 scratch_folder
 find_kit || fail "rt doc doesn't say where the kit is"
 prove_below && compile || exit 1
+outside "$top/packaging/web/lr_live" && compile || exit 1
+compile_devices || fail "devices.c can't be compiled"
 link_both || fail "the library can't be linked"
 for name in liblritstation.a liblritstation.so.1; do
-    cp "$made/$name" "$folder/$name.new" && mv "$folder/$name.new" "$folder/$name" || exit 1
+    cp "$scratch/$name" "$library/$name.new" && mv "$library/$name.new" "$library/$name" || exit 1
 done
-ln -sfn liblritstation.so.1 "$folder/liblritstation.so" && cp "$top/packaging/lritstation.h" "$folder/" || exit 1
-describe > "$folder/lritstation.pc" && echo "$folder"
+ln -sfn liblritstation.so.1 "$library/liblritstation.so" && cp "$top/packaging/lritstation.h" "$library/" || exit 1
+describe > "$library/lritstation.pc" && echo "$library"

@@ -1,4 +1,7 @@
-/* The station in a program that isn't Rattle: one command over bytes that the caller lends. */
+/*
+ * The station in a program that isn't Rattle: one command over bytes that the caller lends, or over devices of the
+ * caller.
+ */
 #ifndef LRITSTATION_H
 #define LRITSTATION_H
 
@@ -42,6 +45,39 @@ enum { LR_NO_MEMORY = 256, LR_NO_TEXT = 257, LR_NO_ROOM = 258 };
 uint32_t lr_run(const uint8_t *words, size_t words_length, const uint8_t *input, size_t input_length,
                 const uint8_t *shelf, size_t shelf_length, uint64_t calls, uint8_t *out, size_t out_room,
                 uint8_t *err, size_t err_room, uint8_t *kept, size_t kept_room, struct lr_counts *counts);
+
+/*
+ * Devices of the caller. `context` goes to each function as its first argument.
+ * take: puts the next bytes of the input, at most that many, to the front of `into`; how many, and 0 at the end.
+ * put: takes the first bytes for the output 1 (what is put) or 2 (why it ended); how many, at least one.
+ * length: how many bytes the shelf has.
+ * read: fills the front of `into` with the shelf's bytes from a place on, as many as there are; how many.
+ * write: writes all bytes at a place of the shelf. cut: takes away its bytes from a place on. sync: makes it durable.
+ * The latter three answer 0. Each of the seven answers less than 0 where it fails.
+ */
+struct lr_devices {
+    void *context;
+    int64_t (*take)(void *context, uint8_t *into, size_t most);
+    int64_t (*put)(void *context, uint32_t output, const uint8_t *bytes, size_t count);
+    int64_t (*length)(void *context);
+    int64_t (*read)(void *context, uint64_t at, uint8_t *into, size_t most);
+    int64_t (*write)(void *context, uint64_t at, const uint8_t *bytes, size_t count);
+    int64_t (*cut)(void *context, uint64_t length);
+    int64_t (*sync)(void *context);
+};
+
+/*
+ * Runs one command over devices: for symbols that still come, and for recordings and shelves that are longer than
+ * memory. The words are those of lr_run. It answers the command's status, LR_NO_TEXT exactly where the words are no
+ * UTF-8, or LR_NO_MEMORY where memory was refused before. Whatever the functions answer, nothing undefined comes of it:
+ * a count that can't be is a failure of the device, statuses 3 to 5. It returns once the functions have.
+ *
+ * What the caller owes:
+ * The words are as those of lr_run are. Each function is there, and returns: it is left by no exception and no jump.
+ * A function writes only within the range that it is given, and keeps no pointer to it.
+ * No function calls lr_run_over for the same shelf. Several calls may run at once, on several threads.
+ */
+uint32_t lr_run_over(const struct lr_devices *devices, const uint8_t *words, size_t words_length);
 
 #ifdef __cplusplus
 }

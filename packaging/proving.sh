@@ -1,4 +1,4 @@
-# What `lritstation`, packaging/arm64.sh and packaging/library.sh share: the proofs of a copy of the crates, and the words
+# What `lritstation` and packaging's arm64.sh, library.sh and web.sh share: the proofs of a copy of the crates, and the words
 # of a build over it. They read it, so it is no script of its own. $top is the top of the repository, $program the path of
 # the built program, and $called the name under which progress is told. What is built is the crate $crate, whose root is
 # $root, and $product says what that is.
@@ -133,6 +133,19 @@ prove_below() {
     processors=$(getconf _NPROCESSORS_ONLN)
     echo "$called: proves $count crates on $processors processors and builds the $product, this once" >&2
     prove
+}
+
+# outside FOLDER: the crate that is built is this one from here on. It stands outside of crates/, and over libraries of
+# the copy alone, which the line in its crates.txt names. Its files have names with .in at their ends, as rt ci would
+# refuse them there.
+outside() {
+    crate=${1##*/}
+    made=$scratch/$crate/out
+    mkdir -p "$scratch/$crate/src" "$made" && cp "$1/crates.txt" "$scratch/program.txt" || return 1
+    for part in "$1/src/"*.in; do
+        name=${part##*/}
+        cp "$part" "$scratch/$crate/src/${name%.in}" || return 1
+    done
 }
 
 # Sets $kit, the kit's folder.

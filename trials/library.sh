@@ -1,7 +1,8 @@
 #!/bin/sh
-# The library for C: a small program, library.c, runs commands by it over bytes in memory, and the built program runs the
-# same over files. Status, what is printed, the line on why it ended and the bytes of the shelf are the same; so they are
-# where the rooms filled up at first. The library is made twice, with the same bytes.
+# The library for C: a small program, library.c, runs commands by it over bytes in memory and over devices of its own, and
+# the built program runs the same over files. Status, what is printed, the line on why it ended and the bytes of the shelf
+# are the same; so they are where the rooms filled up at first. The library is made twice, with the same bytes. Then the
+# tests of the tool's module for it.
 # Usage: trials/library.sh. Needs rt, python3, and a C compiler. $LRITSTATION may name the built program, and $LIBRARY the
 # folder of a library that packaging/library.sh made, which is then not made.
 top=$(cd "$(dirname "$0")/.." && pwd)
@@ -44,9 +45,10 @@ same() {
     cp shelf theirs
     "$LRITSTATION" theirs "$@" < "$input" > out 2> err
     wanted=$?
-    for way in loads run; do
+    for way in "loads bytes" "loads devices" "run bytes" "run devices"; do
         cp shelf ours
-        "./$way" ours "$input" "$@" > out-ours 2> err-ours
+        # shellcheck disable=SC2086 # (a program and a word)
+        ./$way ours "$input" "$@" > out-ours 2> err-ours
         status=$?
         [ "$status" = "$wanted" ] || fail "$way: $* ended with $status, not $wanted"
         cmp -s out out-ours || fail "$way: $* put other bytes"
@@ -87,4 +89,8 @@ same frames packets
 printf 'no shelf' > shelf
 same none list
 same none init 1000000
-echo "trials/library.sh: $commands commands, each by the program, by the library that is loaded and by the one that is linked"
+export LRITSTATION LRITSTATION_LIBRARY="$LIBRARY" PYTHONDONTWRITEBYTECODE=1
+(cd "$top/tools" && python3 -m unittest tests.test_embedded) > "$scratch/said" 2>&1 || fail "$(tail -n 30 "$scratch/said")"
+tests=$(sed -n 's/^Ran \([0-9]*\) tests.*/\1/p' "$scratch/said")
+echo "trials/library.sh: $commands commands, each by the program, by the library that is loaded and by the one that is linked," \
+    "over bytes and over devices; $tests tests from within Python"

@@ -1,0 +1,400 @@
+// What a Worker with `lr_run` does: it finds the line code, holds the shelf, and makes pictures, texts and files of it.
+import { MemoryShelf, bytesOf } from './devices.mjs';
+import { which } from './forms.mjs';
+import { joinedPicture, isReadable, pictureOf, shown } from './images.mjs';
+import { safe, stampName } from './names.mjs';
+import { pngOf } from './png.mjs';
+import { Groups, inWords } from './segments.mjs';
+import { HEADER_BYTES, fileOf, headsOf } from './shelf.mjs';
+import { headingOf, inside, nameOf, pictureKind } from './texts.mjs';
+import { TYPES, isEncrypted, stampOf, structureOf } from './xrit.mjs';
+import { ZipWriter } from './zip.mjs';
+
+const MOST_SIDE = 1200; // of a picture as it is shown
+const MOST_SHOWN_CHARACTERS = 100_000; // of a text as it is shown
+const DRAW_SHARE = 4; // of the time between two drawings, drawing takes one part
+const PAUSE_AFTER = 30; // milliseconds of work after which messages are heard
+const MOST_DRAWN = 40; // pictures that are drawn until more are asked for
+const WHOLE_ENDING = '.lrit';
+
+/**
+ * @typedef {import('./station.mjs').Station} Station
+ * @typedef {import('./shelf.mjs').StoredFile} StoredFile
+ * @typedef {import('./shelf.mjs').Head} Head
+ * @typedef {import('./segments.mjs').Group} Group
+ * @typedef {import('./receiver.mjs').Change} Change
+ * @typedef {import('./receiver.mjs').Tell} Tell
+ * @typedef {{name: string, bytes: Uint8Array}} Saved
+ */
+
+/** The shelf and what it has. */
+export class Keeper {
+  shelf = new MemoryShelf();
+  groups = new Groups();
+  gate = HEADER_BYTES; // where the next item is looked for
+  number = 0; // of the next file
+  /** @type {Map<number, Head>} */
+  heads = new Map();
+  /** @type {Set<number>} */
+  gone = new Set();
+  /** @type {number[]} */
+  queue = []; // files that are to be looked at
+  /** @type {Set<Group>} */
+  changed = new Set(); // pictures that are to be drawn
+  most = MOST_DRAWN; // pictures that are drawn
+  run = 0; // which shelf it is
+  drawFrom = 0;
+  isBusy = false;
+  isEnding = false;
+
+  /**
+   * @param {Station} station
+   * @param {Tell} tell
+   */
+  constructor(station, tell) {
+    this.station = station;
+    this.tell = tell;
+  }
+
+  /**
+   * Begins anew.
+   * @param {MemoryShelf} shelf
+   */
+  begin(shelf = new MemoryShelf()) {
+    const { station, tell, run } = this;
+    Object.assign(this, new Keeper(station, tell), { shelf, run: run + 1 });
+  }
+
+  // ---- the shelf
+
+  /** @param {Change} change */
+  change(change) {
+    if (change.kind === 'write') this.shelf.write(change.place, change.bytes);
+    if (change.kind === 'cut') this.shelf.cut(change.length);
+    if (change.kind === 'shelved') this.look();
+  }
+
+  /** Takes what stands on the shelf anew. */
+  look() {
+    for (const head of headsOf(this.shelf, this.gate, this.number)) {
+      this.gate = head.gate + 1 + head.extent;
+      if (head.isDiscard) this.gone.add(head.number);
+      else {
+        this.number += 1;
+        this.heads.set(head.number, head);
+        this.queue.push(head.number);
+      }
+    }
+    this.work();
+  }
+
+  /** There will be no more changes: all is drawn, and then it is told. */
+  end() {
+    this.look();
+    this.isEnding = true;
+    this.work();
+  }
+
+  /**
+   * A saved shelf in place of this one.
+   * @param {Uint8Array} bytes
+   */
+  open(bytes) {
+    this.begin(new MemoryShelf(bytes));
+    const { status, out, err } = this.station.run(['verify'], { shelf: bytes });
+    const bad = new TextDecoder().decode(out).split('\n').filter((line) => / bad /.test(line)).length;
+    this.tell({ kind: 'opened', status, err: err.trim(), bad });
+    for (const head of headsOf(this.shelf)) if (head.isDiscard) this.gone.add(head.number);
+    this.end();
+  }
+
+  /**
+   * A file of the shelf, or null where its checksum is wrong.
+   * @param {number} number
+   * @returns {StoredFile | null}
+   */
+  file(number) {
+    const head = this.heads.get(number);
+    return head ? fileOf(this.shelf.slice(head.gate + 1, head.extent), number) : null;
+  }
+
+  // ---- work
+
+  /** Looks at new files and draws pictures that have changed, with pauses in which messages are heard. */
+  async work() {
+    if (this.isBusy) return;
+    this.isBusy = true;
+    const { run } = this;
+    let from = 0;
+    while (this.queue.length || this.changed.size) {
+      if (performance.now() - from > PAUSE_AFTER) {
+        await new Promise((go) => setTimeout(go, 0));
+        from = performance.now();
+      }
+      if (this.run !== run) return;
+      await this.step().catch((fault) => this.tell({ kind: 'trouble', text: String(fault) }));
+    }
+    if (this.run !== run) return;
+    this.isBusy = false;
+    const waiting = Math.max(0, this.groups.all.length - this.most);
+    if (this.isEnding) this.tell({ kind: 'settled', files: this.heads.size - this.gone.size, waiting });
+    this.isEnding = false;
+  }
+
+  /** Draws a picture where it is time for that, and else looks at a file. */
+  async step() {
+    const wait = this.isEnding && !this.queue.length ? 0 : this.drawFrom - performance.now();
+    if (this.changed.size && wait <= 0) await this.drawOne();
+    else if (this.queue.length) await this.lookAt(/** @type {number} */ (this.queue.shift()));
+    else await new Promise((go) => setTimeout(go, Math.min(wait, 10 * PAUSE_AFTER)));
+  }
+
+  /** Draws more pictures. */
+  more() {
+    for (const group of this.groups.all.slice(this.most, this.most + MOST_DRAWN)) this.changed.add(group);
+    this.most += MOST_DRAWN;
+    this.isEnding = true;
+    this.work();
+  }
+
+  /**
+   * Tells of a new file.
+   * @param {number} number
+   */
+  async lookAt(number) {
+    if (this.gone.has(number)) return;
+    const { run } = this;
+    const file = this.file(number);
+    if (!file) {
+      this.tell({ kind: 'file', number, name: `file ${number}`, what: 'its checksum is wrong' });
+      return;
+    }
+    const { header } = file;
+    const isPicture = header !== null && header.fileType === TYPES.image && structureOf(header) !== null;
+    const found = isPicture ? { files: [], note: '' } : await inside(file);
+    if (this.run !== run) return;
+    const note = header && isEncrypted(header) ? 'it is encrypted, so it is kept as it came' : found.note;
+    this.tell({ ...aboutFile(file), what: isPicture ? 'picture' : whatIs(found.files), note });
+    const group = isPicture ? this.groups.add(file) : null;
+    if (group && group.id < this.most) this.changed.add(group);
+    for (const [member, it] of found.files.entries()) this.tellOpened(file, member, it);
+  }
+
+  /**
+   * Tells what a file has inside: a text, or a picture as it was sent.
+   * @param {StoredFile} file
+   * @param {number} member
+   * @param {import('./texts.mjs').Opened} it
+   */
+  tellOpened(file, member, it) {
+    const name = [nameOf(file), it.name].filter(Boolean).join(' · ');
+    const about = { number: file.number, member, name, stamp: stampText(file.header) };
+    const kind = pictureKind(it.bytes);
+    if (kind && isReadable(it.bytes, kind.ending)) {
+      this.tell({ kind: 'sent', ...about, bytes: it.bytes, type: kind.type });
+    }
+    if (it.ending !== '.txt') return;
+    const text = new TextDecoder().decode(it.bytes);
+    const isCut = text.length > MOST_SHOWN_CHARACTERS;
+    this.tell({ kind: 'text', ...about, heading: headingOf(text), text: text.slice(0, MOST_SHOWN_CHARACTERS), isCut });
+  }
+
+  /**
+   * The picture of a group, or null.
+   * @param {Group} group
+   */
+  async picture(group) {
+    const parts = [];
+    for (const { number, segment } of group.parts) {
+      const file = this.file(number);
+      const picture = file && (await pictureOf(this.station, file));
+      if (picture && !segment) return picture;
+      if (picture && segment) parts.push({ segment, picture });
+    }
+    return parts.length ? joinedPicture(parts) : null;
+  }
+
+  /** Draws the picture that has waited longest. */
+  async drawOne() {
+    const [group] = this.changed;
+    this.changed.delete(group);
+    const start = performance.now();
+    const { run } = this;
+    const message = await this.drawn(group);
+    if (this.run !== run) return;
+    this.tell(message);
+    this.drawFrom = performance.now() + DRAW_SHARE * (performance.now() - start);
+  }
+
+  /**
+   * What is told of a picture.
+   * @param {Group} group
+   * @returns {Promise<Record<string, unknown>>}
+   */
+  async drawn(group) {
+    const about = { id: group.id, name: group.name, stamp: stampText(group.header), missing: inWords(group.missing) };
+    const sent = this.asSent(group);
+    if (sent) {
+      const { file, kind } = sent;
+      return { kind: 'sent', ...about, number: file.number, member: 0, bytes: file.data, type: kind.type };
+    }
+    try {
+      const picture = await this.picture(group);
+      if (!picture) return { kind: 'picture', ...about, shown: null };
+      const { columns, lines, bits } = picture;
+      return { kind: 'picture', ...about, columns, lines, bits, shown: shown(picture, MOST_SIDE) };
+    } catch (fault) {
+      if (!(fault instanceof RangeError)) throw fault;
+      return { kind: 'picture', ...about, shown: null, note: 'it is too large for this browser' };
+    }
+  }
+
+  /**
+   * The file of a picture that is shown as it was sent: a JPEG, GIF or PNG that is no segment.
+   * @param {Group} group
+   */
+  asSent(group) {
+    if (group.segment && group.segment.total > 1) return null;
+    const file = this.file(group.parts[0].number);
+    const kind = file && pictureKind(file.data);
+    const isShown = file?.header && kind && !isEncrypted(file.header) && isReadable(file.data, kind.ending);
+    return isShown ? { file, kind } : null;
+  }
+
+  // ---- what is saved
+
+  /**
+   * The picture of a group as a file.
+   * @param {Group} group
+   * @returns {Promise<Saved | null>}
+   */
+  async savedPicture(group) {
+    const { number } = group.parts[0];
+    const stem = stemOf(group.header, group.name, number);
+    const sent = this.asSent(group);
+    if (sent) return { name: stem + sent.kind.ending, bytes: sent.file.data };
+    const picture = await this.picture(group);
+    const lacks = group.missing.length ? `-lacks-${group.missing.length}` : '';
+    return picture && { name: `${stem}${lacks}.png`, bytes: await pngOf(picture) };
+  }
+
+  /**
+   * What is inside a file that is no picture, as files: the file as it came where nothing can be opened.
+   * @param {StoredFile} file
+   * @returns {Promise<Saved[]>}
+   */
+  async savedInside(file) {
+    const stem = stemOf(file.header, nameOf(file), file.number);
+    const { files } = await inside(file);
+    if (!files.length) return [wholeOf(file)];
+    return files.map((it) => ({ name: it.name ? `${stem}-${it.name}` : stem + it.ending, bytes: it.bytes }));
+  }
+
+  /** All files as one zip: pictures and texts as people open them, others as they came. */
+  async packed() {
+    const zip = new ZipWriter(new Date());
+    for (const group of this.groups.all) {
+      const saved = await this.savedPicture(group);
+      const parts = saved ? [] : group.parts.map((part) => this.file(part.number));
+      const files = saved ? [saved] : parts.flatMap((it) => (it ? [wholeOf(it)] : []));
+      for (const it of files) zip.add(it.name, it.bytes);
+    }
+    const inGroups = new Set(this.groups.all.flatMap((group) => group.parts.map((part) => part.number)));
+    for (const number of this.heads.keys()) {
+      const file = inGroups.has(number) || this.gone.has(number) ? null : this.file(number);
+      for (const it of file ? await this.savedInside(file) : []) zip.add(it.name, it.bytes);
+    }
+    return zip.end();
+  }
+
+  // ---- what the page asks for
+
+  /** @param {Blob} file */
+  which(file) {
+    const found = which(
+      this.station,
+      file.size,
+      (start, count) => bytesOf(file.slice(start, start + count)),
+      (told) => this.tell({ kind: 'tried', ...told }),
+    );
+    this.tell({ kind: 'which', found });
+  }
+
+  /**
+   * Sends the files of a shelf as symbols, with so many wrong bytes in each word.
+   * @param {Uint8Array} shelf
+   * @param {number} files
+   * @param {number} wrong
+   */
+  transmit(shelf, files, wrong) {
+    const words = ['transmit', '0', String(files), String(wrong), '--line', 'nrz-m', '--g2', 'plain'];
+    const { status, out, err } = this.station.run(words, { shelf, rooms: { out: 1 << 23, shelf: shelf.length } });
+    if (status !== 0) throw new Error(err);
+    this.tell({ kind: 'sample', bytes: out });
+  }
+
+  /** @param {number} id */
+  async save(id) {
+    const saved = await this.savedPicture(this.groups.all[id]);
+    this.tell({ kind: 'saved', ...saved, type: 'image/png' });
+  }
+
+  /**
+   * @param {number} number
+   * @param {number} member -1 for the file as it came
+   */
+  async saveFile(number, member) {
+    const file = this.file(number);
+    if (!file) return;
+    const saved = member < 0 ? wholeOf(file) : (await this.savedInside(file))[member];
+    this.tell({ kind: 'saved', ...saved, type: 'application/octet-stream' });
+  }
+
+  async saveAll() {
+    this.tell({ kind: 'saved', name: 'files.zip', parts: await this.packed(), type: 'application/zip' });
+  }
+
+  saveShelf() {
+    this.tell({ kind: 'saved', name: 'station.shelf', bytes: this.shelf.all(), type: 'application/octet-stream' });
+  }
+}
+
+/**
+ * The name of a saved file without its ending.
+ * @param {StoredFile['header']} header
+ * @param {string} name
+ * @param {number} number
+ * @returns {string}
+ */
+function stemOf(header, name, number) {
+  const plain = name.endsWith(WHOLE_ENDING) ? name.slice(0, -WHOLE_ENDING.length) : name;
+  return `${stampName(header && stampOf(header))}${safe(plain) || 'file'}.${number}`;
+}
+
+/** @param {StoredFile} file */
+function wholeOf(file) {
+  return { name: stemOf(file.header, nameOf(file), file.number) + WHOLE_ENDING, bytes: file.proper };
+}
+
+/** @param {StoredFile['header']} header */
+function stampText(header) {
+  const stamp = header && stampOf(header);
+  return stamp ? `${stamp.toISOString().slice(0, 16).replace('T', ' ')} UTC` : '';
+}
+
+/** @param {StoredFile} file */
+function aboutFile(file) {
+  const { number, corrected, proper, header } = file;
+  return { kind: 'file', number, corrected, size: proper.length, name: nameOf(file), stamp: stampText(header) };
+}
+
+/**
+ * What a file is, in a word.
+ * @param {import('./texts.mjs').Opened[]} files
+ * @returns {string}
+ */
+function whatIs(files) {
+  if (!files.length) return 'kept as it came';
+  if (files.length > 1 || files[0].name) return 'zip';
+  return { '.txt': 'text', '.bin': 'other', '.zip': 'zip' }[files[0].ending] ?? 'picture';
+}

@@ -1,0 +1,50 @@
+// How well a reception goes over its length, from the lines of `decode`.
+
+const BUCKETS = 160;
+
+/**
+ * @typedef {{frames: number, lost: number, corrected: number}} Bucket
+ */
+
+/** The outcomes of frames by their places. */
+export class Curve {
+  /** @param {number} symbols of the whole recording */
+  constructor(symbols) {
+    this.symbols = Math.max(1, symbols);
+    /** @type {Bucket[]} */
+    this.buckets = Array.from({ length: BUCKETS }, () => ({ frames: 0, lost: 0, corrected: 0 }));
+    this.total = { frames: 0, lost: 0, corrected: 0 };
+  }
+
+  /**
+   * Takes a line, as `window 0 at 0 polarity + restored 0 0 0 0`.
+   * @param {string} line
+   */
+  take(line) {
+    const words = line.split(' ');
+    if (words[0] !== 'window' || words.length < 8) return;
+    const place = Math.min(BUCKETS - 1, Math.floor((Number(words[3]) / this.symbols) * BUCKETS));
+    const isLost = words[6] === 'lost';
+    const corrected = isLost ? 0 : words.slice(7, 11).reduce((sum, it) => sum + Number(it), 0);
+    for (const it of [this.buckets[place], this.total]) {
+      it.frames += 1;
+      it.lost += isLost ? 1 : 0;
+      it.corrected += corrected;
+    }
+  }
+}
+
+/**
+ * Lines of what comes in pieces.
+ * @param {(line: string) => void} each
+ * @returns {(piece: Uint8Array) => void}
+ */
+export function lineReader(each) {
+  let rest = '';
+  const decoder = new TextDecoder();
+  return (piece) => {
+    const lines = (rest + decoder.decode(piece, { stream: true })).split('\n');
+    rest = lines.pop() ?? '';
+    lines.forEach(each);
+  };
+}

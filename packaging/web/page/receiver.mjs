@@ -1,0 +1,106 @@
+// What a Worker with `lr_live` does: it receives a recording, or tells how well it is received, piece by piece. Each
+// write to the shelf goes to the keeper too, which so holds the same bytes at any moment: if this Worker is ended the
+// shelf is as a power cut would leave it.
+import { FileInput, MemoryShelf, bytesOf } from './devices.mjs';
+import { FORMS, TRIED_BYTES, optionsOf } from './forms.mjs';
+import { Curve, lineReader } from './quality.mjs';
+import { MOST_CAPACITY } from './shelf.mjs';
+
+const TOLD_MILLISECONDS = 100; // between two words on how far it is
+
+/**
+ * @typedef {import('./station.mjs').Station} Station
+ * @typedef {import('./forms.mjs').Found} Found
+ * @typedef {(message: Record<string, unknown>) => void} Tell
+ * @typedef {{kind: 'write', place: number, bytes: Uint8Array} | {kind: 'cut', length: number}
+ *   | {kind: 'shelved'}} Change
+ */
+
+/** A shelf whose changes somebody hears. */
+class ToldShelf extends MemoryShelf {
+  /** @param {(change: Change) => void} told */
+  constructor(told) {
+    super();
+    this.told = told;
+  }
+
+  /** @param {number} place @param {Uint8Array} bytes */
+  write(place, bytes) {
+    super.write(place, bytes);
+    this.told({ kind: 'write', place, bytes: bytes.slice() });
+  }
+
+  /** @param {number} length */
+  cut(length) {
+    super.cut(length);
+    this.told({ kind: 'cut', length });
+  }
+}
+
+/**
+ * The recording as an input, which says how far it is.
+ * @param {Blob} file
+ * @param {string} form
+ * @param {Tell} tell
+ * @returns {FileInput}
+ */
+function inputOf(file, form, tell) {
+  const { turnFor, unit } = FORMS[form];
+  const turn = turnFor(bytesOf(file.slice(0, TRIED_BYTES)));
+  let last = 0;
+  return new FileInput(file, turn, unit, (read, size) => {
+    const now = performance.now();
+    if (now - last < TOLD_MILLISECONDS) return;
+    last = now;
+    tell({ kind: 'progress', read, size });
+  });
+}
+
+/**
+ * Receives a recording onto a new shelf.
+ * @param {Station} station
+ * @param {Blob} file
+ * @param {Found} found
+ * @param {(change: Change) => void} keep
+ * @param {Tell} tell
+ */
+export function receive(station, file, found, keep, tell) {
+  const shelf = new ToldShelf(keep);
+  const none = { take: () => 0 };
+  station.live(['init', String(MOST_CAPACITY)], { input: none, shelf, put: () => {} });
+  let last = '';
+  let err = '';
+  const start = performance.now();
+  const lines = lineReader((line) => {
+    last = line;
+    if (line.startsWith('shelved ')) keep({ kind: 'shelved' });
+  });
+  /** @param {number} output @param {Uint8Array} bytes */
+  const put = (output, bytes) => {
+    if (output === 1) lines(bytes);
+    else err += new TextDecoder().decode(bytes);
+  };
+  const input = inputOf(file, found.form, tell);
+  const status = station.live(['receive', ...optionsOf(found)], { input, shelf, put });
+  const fault = station.fault ? String(station.fault) : '';
+  const memory = station.memory.buffer.byteLength;
+  tell({ kind: 'received', status, last, err: err.trim(), fault, memory, milliseconds: performance.now() - start });
+}
+
+/**
+ * Tells how well a recording of symbols is received.
+ * @param {Station} station
+ * @param {Blob} file
+ * @param {Found} found
+ * @param {Tell} tell
+ */
+export function judge(station, file, found, tell) {
+  const { unit, gives } = FORMS[found.form];
+  const curve = new Curve((file.size / unit) * gives);
+  const lines = lineReader((line) => curve.take(line));
+  const told = () => tell({ kind: 'quality', buckets: curve.buckets, total: curve.total });
+  const input = inputOf(file, found.form, told);
+  const shelf = new MemoryShelf();
+  station.live(['decode', ...optionsOf(found)], { input, shelf, put: (output, bytes) => output === 1 && lines(bytes) });
+  tell({ kind: 'quality', buckets: curve.buckets, total: curve.total, isWhole: true });
+}

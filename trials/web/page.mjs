@@ -1,0 +1,320 @@
+// node page.mjs PAGE FOLDER SHOTS PROGRAM BROWSER..: the page in Chromium and in Firefox, from a disk and from a
+// server. FOLDER has the files of files.py. Pictures of the page go to SHOTS. PARTS in the environment may name some.
+import { spawnSync } from 'node:child_process';
+import fs from 'node:fs';
+import http from 'node:http';
+import path from 'node:path';
+import zlib from 'node:zlib';
+import { Chromium, Firefox, pause } from './browsers.mjs';
+
+const [page, folder, shots, program, ...names] = process.argv.slice(2);
+const LONG_TIMES = Number(process.env.TIMES ?? 100); // how often the recording stands in the long one
+const MOST_MEMORY = 16 << 20; // of the receiver's module
+const FORMS = ['unsigned', 'bits', 'packed', 's16le', 's16be', 'f32le', 'f32be', 'frames', 'cadu'];
+const place = (name) => path.join(folder, name);
+const url = `file://${page}`;
+let checks = 0;
+
+/** @param {unknown} holds @param {string} what */
+function check(holds, what) {
+  if (!holds) throw new Error(what);
+  checks += 1;
+}
+
+const state = (browser) => browser.evaluate("document.getElementById('state').textContent");
+const shownText = (browser, id) => browser.evaluate(`document.getElementById('${id}').textContent`);
+const countOf = (browser, selector) => browser.evaluate(`document.querySelectorAll('${selector}').length`);
+
+/** Checks the words of the state, or of another element. */
+async function says(browser, words, id = 'state') {
+  const text = await shownText(browser, id);
+  check(words.test(text), `${id}: ${text}`);
+}
+
+/** The pixels of a grey PNG whose rows aren't filtered. */
+function pixelsOf(png) {
+  const parts = [];
+  for (let at = 8; at < png.length; at += 12 + png.readUInt32BE(at)) {
+    const inside = png.subarray(at + 8, at + 8 + png.readUInt32BE(at));
+    if (png.toString('latin1', at + 4, at + 8) === 'IDAT') parts.push(inside);
+  }
+  const [columns, lines, wide] = [png.readUInt32BE(16), png.readUInt32BE(20), png[24] / 8];
+  const rows = zlib.inflateSync(Buffer.concat(parts));
+  const row = columns * wide + 1;
+  return Buffer.concat(Array.from({ length: lines }, (_, line) => rows.subarray(line * row + 1, (line + 1) * row)));
+}
+
+async function opened(browser, where = url) {
+  await browser.open(where);
+  await browser.until("!document.getElementById('sample').disabled");
+}
+
+/** Gives the page a file, and waits until all of it was shown. */
+async function given(browser, file, seconds = 120) {
+  await browser.evaluate('delete document.body.dataset.settled');
+  await browser.evaluate("Object.assign(document.getElementById('state'), { textContent: '', className: '' })");
+  await browser.giveFile('#file', file);
+  const ended = "document.body.dataset.settled || document.getElementById('state').className === 'bad'";
+  await browser.until(ended, seconds);
+  await pause(100);
+}
+
+const earth = () => {
+  const pgm = fs.readFileSync(place('earth.pgm'));
+  return pgm.subarray(pgm.length - 640 * 640);
+};
+
+/** From README's recording to a saved picture in three clicks, from a disk. */
+async function sample(browser) {
+  await browser.click('#sample'); // 1
+  await browser.until('document.body.dataset.settled');
+  await says(browser, /^All is read. 470 of 470 frames were restored, and 6 files came.$/);
+  await browser.click('#pictures button'); // 2: Save as PNG
+  const { name, bytes } = await browser.saved(/\.png$/);
+  check(name === '20261129T170020Z-SAMPLE_EARTH_20261129170020_0.1.png', name);
+  check(pixelsOf(bytes).equals(earth()), "the saved picture is the program's");
+  await browser.until("document.getElementById('quality').dataset.isWhole === 'true'");
+  await says(browser, /Of 470 frames 0 were lost \(0 %\). .*32\.0 bytes/, 'quality');
+  await says(browser, /SAMPLE BULLETIN/, 'texts');
+  await says(browser, /nrz-m, g2 plain: 244 of 244/, 'tries');
+  await browser.click('#save-recording');
+  const recording = (await browser.saved(/\.soft$/)).bytes;
+  check(recording.equals(fs.readFileSync(place('recording'))), "the sample's recording is README's");
+}
+
+/** The shelf is saved, the program reads it, and the page opens it again. */
+async function shelf(browser) {
+  await browser.click('#sample');
+  await browser.until('document.body.dataset.settled');
+  await browser.click('#save-shelf');
+  const saved = await browser.saved(/\.shelf$/);
+  const kept = place(`kept-${browser.name}.shelf`);
+  fs.writeFileSync(kept, saved.bytes);
+  const verified = spawnSync(program, [kept, 'verify']);
+  const wanted = [0, 1, 2, 3, 4, 5].map((it) => `file ${it} ok\n`).join('');
+  check(verified.stdout.toString() === wanted, verified.stdout);
+  for (let number = 0; number < 5; number += 1) {
+    const extract = (it) => spawnSync(program, [it, 'extract', String(number)]).stdout;
+    const [one, other] = [kept, place('sent.shelf')].map(extract);
+    check(one.equals(other) && one.length > 0, `file ${number} is the one that was sent`);
+  }
+  await given(browser, kept);
+  await says(browser, /^The shelf is open, and each file is whole.$/);
+  check((await countOf(browser, '#files tr')) === 6, 'six files are listed');
+  await given(browser, place('damaged.shelf'));
+  await says(browser, /1 of its files are damaged/);
+}
+
+/** All files as one zip, which another program reads. */
+async function zip(browser) {
+  await given(browser, place('my.shelf'));
+  await browser.click('#save-all');
+  const saved = await browser.saved(/files.*\.zip$/);
+  fs.writeFileSync(place('all.zip'), saved.bytes);
+  const line = 'import sys, zipfile; z = zipfile.ZipFile(sys.argv[1]); print(z.testzip(), *z.namelist(), sep="\\n")';
+  const listed = spawnSync('python3', ['-c', line, place('all.zip')]);
+  const [bad, ...files] = listed.stdout.toString().trim().split('\n');
+  check(bad === 'None', listed.stderr.toString());
+  check(files.length === 2 && files.filter((it) => it.endsWith('.png')).length === 1, files.join(' '));
+}
+
+/** Recordings in other forms. */
+async function forms(browser) {
+  for (const form of FORMS) {
+    await given(browser, place(`form.${form}`));
+    await says(browser, /^All is read/);
+    check((await countOf(browser, '#files tr')) >= 1, `${form}: files came`);
+  }
+  for (const name of ['noise', 'none']) {
+    await given(browser, place(name));
+    await says(browser, /Nothing that this receiver knows/);
+  }
+}
+
+/** Hostile files are shown as text, and nothing of them runs. */
+async function hostile(browser) {
+  await given(browser, place('hostile.shelf'));
+  check((await browser.evaluate('document.title')) === 'Weather satellite receiver', 'no script of a file ran');
+  check((await countOf(browser, '#results img[src=x], #results script, #results b')) === 0, 'there is no markup');
+  await says(browser, /<img src=x/, 'texts');
+  for (const words of [/too large when it is unpacked/, /too many files/, /can't be read/]) {
+    await says(browser, words, 'files');
+  }
+  await says(browser, /No picture can be had/, 'pictures');
+  await given(browser, place('segments.shelf'), 400);
+  await says(browser, /1 × 65535[^m]*$/, 'pictures');
+  check((await countOf(browser, '#files tr')) <= 200, 'the table begins with a part');
+}
+
+/** Strips of JPEG are joined. */
+async function strips(browser) {
+  if (!fs.existsSync(place('strips.shelf'))) return 'strips of JPEG (Pillow is missing)';
+  await given(browser, place('strips.shelf'));
+  await says(browser, /64 × 48/, 'pictures');
+  const context = "document.querySelector('#pictures canvas').getContext('2d')";
+  for (const [at, grey] of [[8, 60], [24, 120], [40, 180]]) {
+    const found = await browser.evaluate(`${context}.getImageData(9, ${at}, 1, 1).data[0]`);
+    check(Math.abs(found - grey) <= 2, `${found} in line ${at}`);
+  }
+  return '';
+}
+
+/** A long recording: its memory, its time, files as they come, and a stop. */
+async function long(browser) {
+  const recording = fs.readFileSync(place('recording'));
+  fs.rmSync(place('long'), { force: true });
+  for (let time = 0; time < LONG_TIMES; time += 1) fs.appendFileSync(place('long'), recording);
+  const start = Date.now();
+  await given(browser, place('long'), 600);
+  const seconds = ((Date.now() - start) / 1000).toFixed(0);
+  const text = await state(browser);
+  check(new RegExp(`and ${6 * LONG_TIMES} files came`).test(text), text);
+  const memory = Number(await browser.evaluate('document.body.dataset.memory'));
+  check(memory > 0 && memory < MOST_MEMORY, `the module has ${memory} bytes`);
+  await browser.evaluate('delete document.body.dataset.settled');
+  await browser.giveFile('#file', place('long'));
+  await browser.until("document.querySelectorAll('#files tr').length > 3", 120);
+  await says(browser, /[0-9]+ %(, about .* left)?\. Files so far: [0-9]+/, 'time');
+  await browser.click('#stop');
+  await browser.until('document.body.dataset.settled');
+  await says(browser, /^Stopped/);
+  fs.rmSync(browser.downloads, { recursive: true });
+  fs.mkdirSync(browser.downloads);
+  await browser.click('#save-shelf');
+  fs.writeFileSync(place('stopped.shelf'), (await browser.saved(/\.shelf$/)).bytes);
+  const lines = spawnSync(program, [place('stopped.shelf'), 'verify']).stdout.toString().trim().split('\n');
+  check(lines.length > 3 && lines.every((it) => / ok$/.test(it)), 'the shelf that was left is whole');
+  const size = ((recording.length * LONG_TIMES) / 1e6).toFixed(0);
+  return `${size} MB in ${seconds} s with ${(memory / 1e6).toFixed(1)} MB of the module's memory`;
+}
+
+const ASKING = [
+  'fetch("/x")',
+  'new Promise((go, no) => Object.assign(new Image(), { onload: go, onerror: no, src: "/y.png" }))',
+  'new Promise((go, no) => Object.assign(new WebSocket("ws://" + location.host), { onopen: go, onerror: no }))',
+];
+
+/** From a server: one request, and none by what is in the page. */
+async function served(browser) {
+  const asked = [];
+  const server = http.createServer((ask, answer) => {
+    asked.push(ask.url);
+    answer.writeHead(ask.url === '/receiver.html' ? 200 : 404, { 'Content-Type': 'text/html' });
+    answer.end(ask.url === '/receiver.html' ? fs.readFileSync(page) : '');
+  });
+  await new Promise((go) => server.listen(0, '127.0.0.1', go));
+  const base = `http://127.0.0.1:${server.address().port}`;
+  try {
+    await opened(browser, `${base}/receiver.html`);
+    await browser.click('#sample');
+    await browser.until('document.body.dataset.settled');
+    await says(browser, /6 files came/);
+    for (const it of ASKING) {
+      const line = `(async () => { try { await ${it}; return 'came'; } catch { return 'refused'; } })()`;
+      check((await browser.evaluate(line)) === 'refused', `${it} came`);
+    }
+    await pause(500);
+    check(asked.every((it) => it === '/receiver.html' || it === '/favicon.ico'), asked.join(' '));
+    return asked.join(' ');
+  } finally {
+    server.close();
+  }
+}
+
+/** The host of the modules, as one script, with a function that runs commands over files of an element. */
+function hostScript() {
+  const inside = fs.readFileSync(new URL('inside.js', import.meta.url), 'utf8');
+  const packaging = new URL('../../packaging/web/', import.meta.url).pathname;
+  const both = "bundle.script('station.mjs', seen) + bundle.script('devices.mjs', seen)";
+  const line = `import bundle; seen = set(); print(${both})`;
+  const done = spawnSync('python3', ['-c', line], { env: { ...process.env, PYTHONPATH: packaging } });
+  if (done.status !== 0) throw new Error(done.stderr.toString());
+  return `(() => { ${done.stdout}\n${inside} })()`;
+}
+
+/** Every command that was compared in Node, by both modules within the browser. */
+async function commands(browser) {
+  if (browser.name !== 'Chromium') return '';
+  const answers = JSON.parse(fs.readFileSync(place('answers.json'), 'utf8'));
+  const made = "Object.assign(document.createElement('input'), { type: 'file', multiple: true, id: 'lent-files' })";
+  await browser.evaluate(`document.body.append(${made})`);
+  const files = [...new Set(answers.flatMap((it) => [it.input, it.shelf]))];
+  await browser.giveFile('#lent-files', files.map(place));
+  await browser.evaluate(hostScript());
+  for (const { words, input, shelf, ...wanted } of answers) {
+    const found = JSON.parse(await browser.evaluate(`window.runBoth(${JSON.stringify({ words, input, shelf })})`));
+    for (const [name, answer] of Object.entries(found)) {
+      const isSame = Object.entries(wanted).every(([key, value]) => answer[key] === value);
+      const both = `${JSON.stringify(answer)}, not ${JSON.stringify(wanted)}`;
+      check(isSame, `${name}: ${words.join(' ')} of ${input} and ${shelf}: ${both}`);
+    }
+  }
+  return `${answers.length} commands by lr_run and lr_live`;
+}
+
+/** What is seen on screens of each kind. */
+async function screens(browser) {
+  const wide = { width: 1100, height: 1500 };
+  const kinds = { wide, phone: { width: 390, height: 844, isPhone: true }, dark: { ...wide, isDark: true } };
+  for (const [name, kind] of Object.entries(kinds)) {
+    await browser.screen(kind);
+    await opened(browser);
+    await browser.click('#sample');
+    await browser.until('document.body.dataset.settled');
+    await browser.until("document.getElementById('quality').dataset.isWhole === 'true'");
+    await pause(300);
+    await browser.picture(path.join(shots, `${browser.name.toLowerCase()}-${name}.png`));
+    const root = 'document.documentElement';
+    const overflow = await browser.evaluate(`${root}.scrollWidth - ${root}.clientWidth`);
+    check(overflow <= 0, `${name}: the page is ${overflow} pixels too wide`);
+  }
+}
+
+/** By the keyboard alone, and as a screen reader has it. */
+async function keyboard(browser) {
+  await browser.key('Tab', 9); // past the link to the results
+  await browser.key('Tab', 9);
+  const focused = await browser.evaluate('document.activeElement.id');
+  check(focused === 'sample', focused);
+  await browser.key('Enter', 13);
+  await browser.until('document.body.dataset.settled');
+  const nodes = await browser.accessibility();
+  const named = ['button', 'link', 'combobox', 'image', 'progressbar'];
+  const nameless = nodes.filter((it) => !it.ignored && named.includes(it.role?.value) && !it.name?.value);
+  check(nameless.length === 0, `nameless: ${nameless.map((it) => it.role.value).join(' ')}`);
+  check(nodes.some((it) => it.role?.value === 'status'), 'there is a live region');
+  const headings = nodes.filter((it) => it.role?.value === 'heading').map((it) => it.name.value);
+  const wanted = ['Weather satellite receiver', 'Pictures', 'Texts', 'All files'];
+  check(wanted.every((it) => headings.includes(it)), headings.join(', '));
+}
+
+const kinds = { chromium: Chromium, firefox: Firefox };
+const told = [];
+for (const name of names) {
+  const browser = await kinds[name].start();
+  const isChromium = name === 'chromium';
+  try {
+    const shown = isChromium ? [screens, keyboard] : [];
+    const all = [commands, sample, shelf, zip, forms, hostile, strips, ...shown, served, long];
+    const parts = all.filter((it) => !process.env.PARTS || process.env.PARTS.split(' ').includes(it.name));
+    for (const part of parts) {
+      fs.rmSync(browser.downloads, { recursive: true });
+      fs.mkdirSync(browser.downloads);
+      try {
+        if (part !== served) await opened(browser);
+        const said = await part(browser);
+        if (said) told.push(`${browser.name}: ${part.name}: ${said}`);
+      } catch (fault) {
+        throw new Error(`${browser.version}, ${part.name}: ${fault.message}`);
+      }
+    }
+    if (isChromium) {
+      const outside = browser.requests.filter((it) => !/^(file|blob|data):|^http:\/\/127\.0\.0\.1:/.test(it));
+      check(outside.length === 0, `requests: ${outside.join(' ')}`);
+    }
+    told.push(`${browser.version}`);
+  } finally {
+    await browser.close();
+  }
+}
+console.log(`${checks} checks: ${told.join('; ')}`);
