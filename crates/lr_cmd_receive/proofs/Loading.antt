@@ -31,7 +31,8 @@ use Rattle.lr_reading.specs.Reading.{IsRead}
 use Rattle.lr_shelf.specs.InitialShelves.{InitialShelf, OfItems, OfWay, HoldsStill, StandsWith}
 use Rattle.lr_shelf.specs.InitialShelves.{LeavesPrefixes, next_number}
 use Rattle.lr_cmd_receive.specs.Shelved.{MayStop}
-use Rattle.lr_cmd_receive.specs.Receive.{Receives, IsReceiveCause, IsWorkDone, ReceiveRun, intake, run_onto, receive_query}
+use Rattle.lr_cmd_receive.specs.Receive.{Receives, IsReceiveCause, IsWorkDone, ReceiveRun, intake}
+use Rattle.lr_cmd_receive.specs.Receive.{run_onto, receive_query}
 use Rattle.lr_cmd_receive.specs.Reception.{FewWait, taken_bytes}
 use Rattle.lr_cmd_receive.specs.Shelving.{shelved_lines}
 use Rattle.lr_cmd_receive.proofs.Acknowledging.{all_worked, lines_alone}

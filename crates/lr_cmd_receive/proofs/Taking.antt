@@ -26,7 +26,8 @@ use Rattle.lr_cmd_receive.specs.Noted.{NotedFile, noted_of_outcomes}
 use Rattle.lr_cmd_receive.specs.Reception.{FewWait, ReadsAll, ReadsSome, taken_bytes, reception}
 use Rattle.lr_cmd_receive.specs.Shelved.{HasShelved, ShelvesSoFar, StopsShelving, Gains, GainsNoMore}
 use Rattle.lr_cmd_receive.specs.Shelved.{shelf_in, one_more}
-use Rattle.lr_cmd_receive.specs.ShelverTaken.{IsOnSame, ShelverTook, ShelverStopped, files_of_arrivals, lent_to, mend_of}
+use Rattle.lr_cmd_receive.specs.ShelverTaken.{IsOnSame, ShelverTook, ShelverStopped, files_of_arrivals}
+use Rattle.lr_cmd_receive.specs.ShelverTaken.{lent_to, mend_of}
 use Rattle.lr_layers.proofs.Pushing.{both_kinds}
 use Rattle.lr_cmd_receive.specs.Shelving.{AreAcknowledged, files_onto}
 use Rattle.lr_cmd_receive.proofs.FirstFiles.{files_first}

@@ -35,7 +35,8 @@ fn shelve<D: Disk, O: Sink>(
 ) -> Result<(), Cause>
     ensures shelved { OnOk result (HasShelved (outlets_of D.Disk O.Sink) (noted_file placed.now fillers ∷ [])
         (shelf_in shelf.old (outlets disk.old out.old)) (shelf_in shelf.new (outlets disk.new out.new))) }
-    ensures stopped { IfErr result (λ cause. StopsShelving (outlets_of D.Disk O.Sink) cause (noted_file placed.now fillers ∷ [])
+    ensures stopped { IfErr result (λ cause. StopsShelving (outlets_of D.Disk O.Sink) cause
+        (noted_file placed.now fillers ∷ [])
         (shelf_in shelf.old (outlets disk.old out.old)) (outlets disk.new out.new)) }
 {
     // What `bytes` says of a file bounds the end that the shelf would need.

@@ -86,8 +86,8 @@ pub enum FrameLines {
 pub enum IntakeAction {
     /// A line for what became of each window or block.
     Decode,
-    /// Puts each mission file onto the shelf. An image that lacks packets gets this many fillers at most; with 0 none is
-    /// mended.
+    /// Puts each mission file onto the shelf. An image that lacks packets gets this many fillers at most; with 0 none
+    /// is mended.
     Receive { mend: u16 },
 }
 
