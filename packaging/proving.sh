@@ -136,12 +136,12 @@ prove_below() {
 }
 
 # outside FOLDER: the crate that is built is this one from here on. It stands outside of crates/, and over libraries of
-# the copy alone, which the line in its crates.txt names. Its files have names with .in at their ends, as rt ci would
+# the copy alone, which the line in its crates.in names. Its files have names with .in at their ends, as rt ci would
 # refuse them there.
 outside() {
     crate=${1##*/}
     made=$scratch/$crate/out
-    mkdir -p "$scratch/$crate/src" "$made" && cp "$1/crates.txt" "$scratch/program.txt" || return 1
+    mkdir -p "$scratch/$crate/src" "$made" && cp "$1/crates.in" "$scratch/program.txt" || return 1
     for part in "$1/src/"*.in; do
         name=${part##*/}
         cp "$part" "$scratch/$crate/src/${name%.in}" || return 1
