@@ -154,8 +154,8 @@ fn receive_with<
 }
 
 /// Takes at most `most` bytes, and puts their mission files onto the shelf that the disk holds, all on the caller's
-/// thread. An image that lacks packets gets `mend` fillers at most; with 0 none is mended. What reading takes of memory is
-/// taken first, then the shelf is loaded, and then the source is read.
+/// thread. An image that lacks packets gets `mend` fillers at most; with 0 none is mended. What reading takes of memory
+/// is taken first, then the shelf is loaded, and then the source is read.
 pub fn receive_alone<S: Source, D: Disk, O: Sink>(
     alloc: Global,
     input: Input,
