@@ -41,20 +41,12 @@ static RECORDS_FRONT: [u8; 50] = [
     b'h', b'i', 0x07, 0x00, 0x03,
 ];
 
-/// The file of channel 3 and application 100 with one body.
-fn file_of(alloc: Global, body: &[u8]) -> Result<Option<MissionFile>, NoMemory> {
-    let mut lengths = Lengths::new(alloc);
-    let mut bytes = Bytes::new(alloc);
-    lengths.push((body.len() % 65_535) as u16)?;
-    bytes.extend(body)?;
-    Ok(MissionFile::build(3, 100, lengths, bytes))
-}
-
 /// How many bytes each body of a long file has, but for the first one.
 const PIECE: usize = 33_000;
 
-/// The file of a first body, and of these bytes after it in bodies of 33,000 bytes.
-fn long_file(alloc: Global, front: &[u8], rest: &[u8]) -> Result<Option<MissionFile>, NoMemory> {
+/// The file of channel 3 and application 100 with a first body, and with these bytes after it, if there are any, in
+/// bodies of 33,000 bytes.
+fn file_of(alloc: Global, front: &[u8], rest: &[u8]) -> Result<MissionFile, Fail> {
     let mut lengths = Lengths::new(alloc);
     let mut bytes = Bytes::new(alloc);
     lengths.push((front.len() % 65_535) as u16)?;
@@ -62,17 +54,16 @@ fn long_file(alloc: Global, front: &[u8], rest: &[u8]) -> Result<Option<MissionF
     for _ in 0..rest.len() / PIECE {
         lengths.push(PIECE as u16)?;
     }
-    lengths.push((rest.len() % PIECE) as u16)?;
+    if !rest.is_empty() {
+        lengths.push((rest.len() % PIECE) as u16)?;
+    }
     bytes.extend(rest)?;
-    Ok(MissionFile::build(3, 100, lengths, bytes))
+    Ok(MissionFile::build(3, 100, lengths, bytes).ok_or("no file")?)
 }
 
-/// The refusal of such a file, coded anew in blocks of 64.
-fn long_refusal(alloc: Global, front: &[u8], rest: &[u8]) -> Result<Option<RepackFault>, NoMemory> {
-    let Some(file) = long_file(alloc, front, rest)? else {
-        return Ok(None);
-    };
-    Ok(repack(alloc, &file, 64).err())
+/// The refusal of a file that is to be coded anew in blocks of 64.
+fn refusal_of(alloc: Global, file: MissionFile) -> Result<RepackFault, Fail> {
+    Ok(repack(alloc, &file, 64).err().ok_or("it isn't refused")?)
 }
 
 /// This many bytes of 0, and after them as many more, in turn two of 0 and two of 255.
@@ -93,18 +84,17 @@ fn gives(
     block: u32,
     lengths: &[u16],
     bytes: &[u8],
-) -> Result<bool, NoMemory> {
+) -> Result<bool, Fail> {
     if block != 8 && block != 16 {
         return Ok(false);
     }
-    let Some(file) = file_of(alloc, body)? else {
-        return Ok(false);
-    };
-    let Ok(new) = repack(alloc, &file, block) else {
-        return Ok(false);
-    };
-    let right = *new.lengths() == *lengths && *new.bytes() == *bytes;
-    Ok(right && new.vc() == 3 && new.apid() == 100 && has_one_image(alloc, &file, &new))
+    let file = file_of(alloc, body, &[])?;
+    let new = repack(alloc, &file, block).ok().ok_or("refused")?;
+    if *new.lengths() != *lengths || *new.bytes() != *bytes {
+        let (lengths, bytes) = (new.lengths(), new.bytes());
+        return Err(Fail::new(format_args!("bodies of {lengths:?} come: {bytes:?}")));
+    }
+    Ok(new.vc() == 3 && new.apid() == 100 && has_one_image(alloc, &file, &new))
 }
 
 /// Whether both files have an image of the same pixels.
@@ -113,14 +103,6 @@ fn has_one_image(alloc: Global, one: &MissionFile, other: &MissionFile) -> bool 
         (Ok(image), Ok(new)) => *image.pixels() == *new.pixels(),
         _ => false,
     }
-}
-
-/// The refusal of a file of one body.
-fn refusal_of(alloc: Global, body: &[u8]) -> Result<Option<RepackFault>, NoMemory> {
-    let Some(file) = file_of(alloc, body)? else {
-        return Ok(None);
-    };
-    Ok(repack(alloc, &file, 8).err())
 }
 
 #[test]
@@ -133,15 +115,9 @@ fn each_line_is_a_body(rt: HostRuntime) -> Result<(), Fail> {
 #[test]
 fn a_file_that_is_coded_so_stays(rt: HostRuntime) -> Result<(), Fail> {
     let alloc = rt.alloc();
-    let Some(file) = file_of(alloc, &PLAIN)? else {
-        return Err(Fail::from("no file"));
-    };
-    let Ok(new) = repack(alloc, &file, 8) else {
-        return Err(Fail::from("refused"));
-    };
-    let Ok(again) = repack(alloc, &new, 8) else {
-        return Err(Fail::from("refused"));
-    };
+    let file = file_of(alloc, &PLAIN, &[])?;
+    let new = repack(alloc, &file, 8).ok().ok_or("refused")?;
+    let again = repack(alloc, &new, 8).ok().ok_or("refused")?;
     assert!(rt; *again.bytes() == *new.bytes() && *again.lengths() == *new.lengths());
     Ok(())
 }
@@ -159,8 +135,8 @@ fn other_records_stay(rt: HostRuntime) -> Result<(), Fail> {
 
 #[test]
 fn four_bits_are_refused(rt: HostRuntime) -> Result<(), Fail> {
-    let refusal = refusal_of(rt.alloc(), &NIBBLES)?;
-    assert!(rt; matches!(refusal, Some(RepackFault::Depth { bits: 4 })));
+    let refusal = refusal_of(rt.alloc(), file_of(rt.alloc(), &NIBBLES, &[])?)?;
+    assert!(rt; matches!(refusal, RepackFault::Depth { bits: 4 }));
     Ok(())
 }
 
@@ -178,20 +154,14 @@ static TEXT: [u8; 38] = [
 
 /// Whether an image of this size, with `size` bytes of pixels that are all the same, is coded anew in blocks of 64 as a
 /// file with the same image.
-fn stays(alloc: Global, bits: u8, columns: u16, lines: u16, size: usize) -> Result<bool, NoMemory> {
+fn stays(alloc: Global, bits: u8, columns: u16, lines: u16, size: usize) -> Result<bool, Fail> {
     let mut front = WIDE;
     front[29] = bits;
     front[30..32].copy_from_slice(&columns.to_be_bytes());
     front[32..34].copy_from_slice(&lines.to_be_bytes());
-    let mut pixels = Vec::new(alloc);
-    pixels.resize(size, 0x5A)?;
-    let Some(file) = long_file(alloc, &front, pixels.as_slice())? else {
-        return Ok(false);
-    };
-    match repack(alloc, &file, 64) {
-        Ok(new) => Ok(has_one_image(alloc, &file, &new)),
-        Err(_) => Ok(false),
-    }
+    let file = file_of(alloc, &front, &vec![in alloc; 0x5A; size]?)?;
+    let new = repack(alloc, &file, 64).ok().ok_or("refused")?;
+    Ok(has_one_image(alloc, &file, &new))
 }
 
 #[test]
@@ -212,29 +182,28 @@ fn images_of_each_depth_and_of_great_and_small_sizes_stay(rt: HostRuntime) -> Re
 fn the_first_long_line_is_told(rt: HostRuntime) -> Result<(), Fail> {
     let alloc = rt.alloc();
     let pixels = rough_after_flat(alloc, 66_000)?;
-    let refusal = long_refusal(alloc, &WIDE, pixels.as_slice())?;
-    assert!(rt; matches!(refusal, Some(RepackFault::Line { line: 1 })));
+    let refusal = refusal_of(alloc, file_of(alloc, &WIDE, pixels.as_slice())?)?;
+    assert!(rt; matches!(refusal, RepackFault::Line { line: 1 }));
     Ok(())
 }
 
 #[test]
 fn a_long_header_is_refused(rt: HostRuntime) -> Result<(), Fail> {
     let alloc = rt.alloc();
-    let mut text = Vec::new(alloc);
     // The text, and the pixel.
-    text.resize(65_503, b'x')?;
-    let refusal = long_refusal(alloc, &TEXT, text.as_slice())?;
-    assert!(rt; matches!(refusal, Some(RepackFault::Header { length: 65_547 })));
+    let text = vec![in alloc; b'x'; 65_503]?;
+    let refusal = refusal_of(alloc, file_of(alloc, &TEXT, &text)?)?;
+    assert!(rt; matches!(refusal, RepackFault::Header { length: 65_547 }));
     Ok(())
 }
 
 #[test]
 fn a_file_without_an_image_is_refused(rt: HostRuntime) -> Result<(), Fail> {
-    let refusal = refusal_of(rt.alloc(), &PLAIN[..50])?;
+    let refusal = refusal_of(rt.alloc(), file_of(rt.alloc(), &PLAIN[..50], &[])?)?;
     assert!(rt;
         matches!(
             refusal,
-            Some(RepackFault::Image(ImageFault::Short { pixels: 15 }))
+            RepackFault::Image(ImageFault::Short { pixels: 15 })
         )
     );
     Ok(())

@@ -30,23 +30,24 @@ pub(crate) fn file_of(alloc: Global, vc: u8, body: &[u8]) -> Result<Option<Missi
     Ok(MissionFile::build(vc, 100, lengths, bytes))
 }
 
-/// Loads a file of one body. `None`: it is no file.
+/// Loads a file of one body, which has to be one.
 fn load(
     uplink: &mut Uplink,
     alloc: Global,
     vc: u8,
     body: &[u8],
-) -> Result<Option<Result<(), UplinkFault>>, NoMemory> {
-    match file_of(alloc, vc, body)? {
-        Some(file) => Ok(Some(uplink.load(file))),
-        None => Ok(None),
-    }
+) -> Result<Result<(), UplinkFault>, Fail> {
+    Ok(uplink.load(file_of(alloc, vc, body)?.ok_or("no file")?))
 }
 
-/// Whether the next frame begins with these bytes, and has this checksum.
-fn frame_is(uplink: &mut Uplink, front: &[u8; 14], checksum: u16) -> bool {
+/// Whether the next frame begins with these bytes, and has this checksum. Where it doesn't, the failure has both.
+fn frame_is(uplink: &mut Uplink, front: &[u8; 14], checksum: u16) -> Result<bool, Fail> {
     let mut frame = [0u8; FRAME_BYTES];
-    uplink.next_frame(&mut frame) && frame.starts_with(front) && crc16(&frame) == checksum
+    if uplink.next_frame(&mut frame) && frame.starts_with(front) && crc16(&frame) == checksum {
+        return Ok(true);
+    }
+    let (came, sum) = (&frame[..14], crc16(&frame));
+    Err(Fail::new(format_args!("a frame begins {came:?}, with the checksum {sum:x}")))
 }
 
 /// Whether no frame is left.
@@ -55,60 +56,46 @@ fn is_done(uplink: &mut Uplink) -> bool {
     !uplink.next_frame(&mut frame) && frame == [0u8; FRAME_BYTES]
 }
 
-fn short_file_takes_one_frame(alloc: Global) -> Result<bool, NoMemory> {
-    let mut uplink = Uplink::new(alloc, STANDARD)?;
-    let loaded = load(&mut uplink, alloc, 0, &SHORT)?;
-    let front = [0x41, 0xC0, 0, 0, 0, 0, 0, 0, 0, 0x64, 0xC0, 0, 0, 0x1B];
-    Ok(
-        matches!(loaded, Some(Ok(())))
-            && frame_is(&mut uplink, &front, SHORT_FRAME)
-            && is_done(&mut uplink),
-    )
-}
-
-/// A body of 873 bytes leaves three bytes of its zone, so that an idle packet goes through the next one.
-fn idle_packet_takes_a_frame(alloc: Global) -> Result<bool, NoMemory> {
-    let mut uplink = Uplink::new(alloc, STANDARD)?;
-    let loaded = load(&mut uplink, alloc, 5, &[7; 873])?;
-    let first = [0x41, 0xC5, 0, 0, 0, 0, 0, 0, 0, 0x64, 0xC0, 0, 0x03, 0x6A];
-    let second = [0x41, 0xC5, 0, 0, 1, 0, 0x07, 0xFF, 0, 0x03, 0x70, 0, 0, 0];
-    Ok(
-        matches!(loaded, Some(Ok(())))
-            && frame_is(&mut uplink, &first, LONG_FRAMES[0])
-            && frame_is(&mut uplink, &second, LONG_FRAMES[1])
-            && is_done(&mut uplink),
-    )
-}
-
-/// A file of the channel of fill is refused, and the next file is sent as if it hadn't been there.
-fn fill_is_no_file(alloc: Global) -> Result<bool, NoMemory> {
-    let mut uplink = Uplink::new(alloc, STANDARD)?;
-    let refused = load(&mut uplink, alloc, 63, &SHORT)?;
-    let none = is_done(&mut uplink);
-    let loaded = load(&mut uplink, alloc, 0, &SHORT)?;
-    let front = [0x41, 0xC0, 0, 0, 0, 0, 0, 0, 0, 0x64, 0xC0, 0, 0, 0x1B];
-    Ok(
-        matches!(refused, Some(Err(UplinkFault::Fill)))
-            && none
-            && matches!(loaded, Some(Ok(())))
-            && frame_is(&mut uplink, &front, SHORT_FRAME),
-    )
-}
+/// The front of the short file's frame.
+const SHORT_FRONT: [u8; 14] = [0x41, 0xC0, 0, 0, 0, 0, 0, 0, 0, 0x64, 0xC0, 0, 0, 0x1B];
 
 #[test]
 fn a_short_file_takes_one_frame(rt: HostRuntime) -> Result<(), Fail> {
-    assert!(rt; short_file_takes_one_frame(rt.alloc())?);
+    let alloc = rt.alloc();
+    let mut uplink = Uplink::new(alloc, STANDARD)?;
+    load(&mut uplink, alloc, 0, &SHORT)??;
+    assert!(rt; frame_is(&mut uplink, &SHORT_FRONT, SHORT_FRAME)?);
+    assert!(rt; is_done(&mut uplink));
     Ok(())
 }
 
+/// A body of 873 bytes leaves three bytes of its zone, so that an idle packet goes through the next one.
 #[test]
 fn a_short_rest_goes_on_through_the_next_zone(rt: HostRuntime) -> Result<(), Fail> {
-    assert!(rt; idle_packet_takes_a_frame(rt.alloc())?);
+    let alloc = rt.alloc();
+    let mut uplink = Uplink::new(alloc, STANDARD)?;
+    load(&mut uplink, alloc, 5, &[7; 873])??;
+    let first = [0x41, 0xC5, 0, 0, 0, 0, 0, 0, 0, 0x64, 0xC0, 0, 0x03, 0x6A];
+    let second = [0x41, 0xC5, 0, 0, 1, 0, 0x07, 0xFF, 0, 0x03, 0x70, 0, 0, 0];
+    assert!(rt; frame_is(&mut uplink, &first, LONG_FRAMES[0])?);
+    assert!(rt; frame_is(&mut uplink, &second, LONG_FRAMES[1])?);
+    assert!(rt; is_done(&mut uplink));
     Ok(())
 }
 
+/// A file of the channel of fill is refused, and the next file is sent as if it hadn't been there.
 #[test]
 fn fill_is_refused(rt: HostRuntime) -> Result<(), Fail> {
-    assert!(rt; fill_is_no_file(rt.alloc())?);
+    let alloc = rt.alloc();
+    let mut uplink = Uplink::new(alloc, STANDARD)?;
+    assert!(rt;
+        matches!(
+            load(&mut uplink, alloc, 63, &SHORT)?,
+            Err(UplinkFault::Fill)
+        )
+    );
+    assert!(rt; is_done(&mut uplink));
+    load(&mut uplink, alloc, 0, &SHORT)??;
+    assert!(rt; frame_is(&mut uplink, &SHORT_FRONT, SHORT_FRAME)?);
     Ok(())
 }

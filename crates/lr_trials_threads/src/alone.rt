@@ -34,10 +34,13 @@ fn stops(alloc: Global, mut roll: Roll) -> Result<Option<(Refused, u32)>, NoMemo
 fn numbers_come_back_in_order(rt: HostRuntime) -> Result<(), Fail> {
     let alloc = rt.alloc();
     for is_eager in [false, true] {
-        assert!(rt; comes_back(alloc, 100, 1, is_eager)?);
-        assert!(rt; comes_back(alloc, 100, 3, is_eager)?);
-        assert!(rt; comes_back(alloc, 100, 1_000, is_eager)?);
-        assert!(rt; comes_back(alloc, 0, 1, is_eager)?);
+        assert!(rt; comes_back(alloc, 100, 1, is_eager)?, "eager {is_eager}");
+        assert!(rt; comes_back(alloc, 100, 3, is_eager)?, "eager {is_eager}");
+        assert!(rt;
+            comes_back(alloc, 100, 1_000, is_eager)?,
+            "eager {is_eager}"
+        );
+        assert!(rt; comes_back(alloc, 0, 1, is_eager)?, "eager {is_eager}");
     }
     Ok(())
 }

@@ -76,15 +76,16 @@ fn receipts_of(run: &Run, downlink: u8) -> u64 {
     place
 }
 
-/// Whether the first downlinks have this many receipts each, and the others none.
-fn have_receipts(run: &Run, downlinks: u8, each: u64) -> bool {
+/// That the first downlinks have this many receipts each, and the others none.
+fn have_receipts(run: &Run, downlinks: u8, each: u64) -> Result<(), Fail> {
     for downlink in 0..20u8 {
         let wanted = if downlink < downlinks { each } else { 0 };
-        if receipts_of(run, downlink) != wanted {
-            return false;
+        let came = receipts_of(run, downlink);
+        if came != wanted {
+            return Err(Fail::new(format_args!("downlink {downlink} has {came} receipts")));
         }
     }
-    true
+    Ok(())
 }
 
 #[test]
@@ -95,7 +96,7 @@ fn two_downlinks_have_seven_files_each(rt: HostRuntime) -> Result<(), Fail> {
     assert!(rt; matches!(made.run.result, RunEnd::All));
     assert_eq!(rt; made.run.base, 0);
     assert_eq!(rt; appended(&made.run), 14);
-    assert!(rt; have_receipts(&made.run, 2, 7));
+    have_receipts(&made.run, 2, 7)?;
     assert_eq!(rt; files_on(alloc, &mut made.disk), 14);
     Ok(())
 }
@@ -107,7 +108,7 @@ fn one_downlink_keeps_its_order(rt: HostRuntime) -> Result<(), Fail> {
     let made = run(&rt, alloc, &bundle, AMPLE, 10_000)?;
     assert!(rt; matches!(made.run.result, RunEnd::All));
     assert!(rt; made.run.order.as_slice() == [0; 7].as_slice());
-    assert!(rt; have_receipts(&made.run, 1, 7));
+    have_receipts(&made.run, 1, 7)?;
     Ok(())
 }
 
@@ -121,7 +122,7 @@ fn sixteen_downlinks_have_seven_files_each(rt: HostRuntime) -> Result<(), Fail> 
     let bundle = bundle_of(alloc, &streams)?;
     let mut made = run(&rt, alloc, &bundle, AMPLE, 10_000)?;
     assert!(rt; matches!(made.run.result, RunEnd::All));
-    assert!(rt; have_receipts(&made.run, 16, 7));
+    have_receipts(&made.run, 16, 7)?;
     assert_eq!(rt; files_on(alloc, &mut made.disk), 112);
     Ok(())
 }
@@ -136,7 +137,7 @@ fn an_empty_stream_has_no_files(rt: HostRuntime) -> Result<(), Fail> {
     let bundle = bundle_of(alloc, &[eight_frames(1), empty])?;
     let made = run(&rt, alloc, &bundle, AMPLE, 10_000)?;
     assert!(rt; matches!(made.run.result, RunEnd::All));
-    assert!(rt; have_receipts(&made.run, 1, 7));
+    have_receipts(&made.run, 1, 7)?;
     let bundle = bundle_of(alloc, &[empty])?;
     let made = run(&rt, alloc, &bundle, 0, 0)?;
     assert!(rt; matches!(made.run.result, RunEnd::All));
@@ -160,22 +161,25 @@ fn a_full_shelf_ends_the_run(rt: HostRuntime) -> Result<(), Fail> {
     Ok(())
 }
 
-/// Whether a disk that fails at this call of the run ends it, and the files of all receipts are on the shelf, and at
-/// most one more.
+/// That a disk that fails at this call of the run ends it, and the files of all receipts are on the shelf, and at most
+/// one more.
 fn ends_at<R: Threads + Wait + Sync>(
     rt: &R,
     alloc: Global,
     bundle: &Bundle,
     call: u64,
-) -> Result<bool, Fail> {
+) -> Result<(), Fail> {
     let mut made = run(rt, alloc, bundle, AMPLE, call)?;
     let count = appended(&made.run);
     let files = files_on(alloc, &mut made.disk);
-    Ok(
-        matches!(made.run.result, RunEnd::Disk)
-            && have_receipts(&made.run, 1, count)
-            && (files == count || files == count.wrapping_add(1)),
-    )
+    have_receipts(&made.run, 1, count)?;
+    if matches!(made.run.result, RunEnd::Disk)
+        && files.saturating_sub(count) <= 1
+        && files >= count
+    {
+        return Ok(());
+    }
+    Err(Fail::new(format_args!("call {call} fails: {count} receipts and {files} files")))
 }
 
 #[test]
@@ -186,24 +190,23 @@ fn a_disk_that_fails_at_any_call_ends_the_run(rt: HostRuntime) -> Result<(), Fai
     assert!(rt; matches!(made.run.result, RunEnd::All));
     let calls = made.disk.calls().saturating_sub(made.before);
     assert!(rt; calls > 0);
-    let mut all = true;
     for call in 0..calls {
-        all &= ends_at(&rt, alloc, &bundle, call)?;
+        ends_at(&rt, alloc, &bundle, call)?;
     }
-    assert!(rt; all);
     Ok(())
 }
 
-/// Whether a stop inside this call of the disk leaves a shelf of at most this many files, whatever was pending.
-fn leaves_a_shelf(alloc: Global, disk: &MemDisk, call: u64, most: u64) -> Result<bool, Fail> {
-    let mut all = true;
+/// That a stop inside this call of the disk leaves a shelf of at most this many files, whatever was pending.
+fn leaves_a_shelf(alloc: Global, disk: &MemDisk, call: u64, most: u64) -> Result<(), Fail> {
     for kind in 0..3u8 {
         if call < disk.calls() {
-            let mut image = disk.image(alloc, call, kind)?;
-            all &= files_on(alloc, &mut image) <= most;
+            let files = files_on(alloc, &mut disk.image(alloc, call, kind)?);
+            if files > most {
+                return Err(Fail::new(format_args!("kind {kind} in call {call}: {files} files")));
+            }
         }
     }
-    Ok(all)
+    Ok(())
 }
 
 #[test]
@@ -212,10 +215,8 @@ fn a_stop_at_any_moment_leaves_a_shelf(rt: HostRuntime) -> Result<(), Fail> {
     let bundle = bundle_of(alloc, &[three_frames(1), three_frames(2)])?;
     let made = run(&rt, alloc, &bundle, AMPLE, 10_000)?;
     assert!(rt; matches!(made.run.result, RunEnd::All));
-    let mut all = true;
     for call in made.before..made.disk.calls() {
-        all &= leaves_a_shelf(alloc, &made.disk, call, appended(&made.run))?;
+        leaves_a_shelf(alloc, &made.disk, call, appended(&made.run))?;
     }
-    assert!(rt; all);
     Ok(())
 }
