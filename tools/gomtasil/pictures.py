@@ -85,7 +85,7 @@ class Drawer:
 
     def name_of(self, group: Group) -> str:
         """The name of a picture without its ending."""
-        fillers = sum(part.mended.fillers for part in group.parts if part.mended)
+        fillers = group.mended.fillers if group.mended else 0
         lacks = f"-lacks-{len(group.missing)}" if group.missing else ""
         return self.stem_of(group) + lacks + (f"-mended-{fillers}" if fillers else "")
 

@@ -142,13 +142,18 @@ class Group:
         return [first + it for it in range(self.segments[0].total) if it not in here]
 
     @property
+    def mended(self) -> xrit.Mended | None:
+        """How many packets of its files stand in for some that were lost, or None where none does."""
+        all_mended = [part.mended for part in self.parts if part.mended]
+        fillers, packets = (sum(numbers) for numbers in zip(*all_mended)) if all_mended else (0, 0)
+        return xrit.Mended(fillers, packets) if all_mended else None
+
+    @property
     def note(self) -> str:
         """What is wrong with it, in words."""
-        mended = [part.mended for part in self.parts if part.mended]
         words = [f"segments missing: {in_words(self.missing)}"] if self.missing else []
-        if mended:
-            packets = xrit.Mended(sum(it.fillers for it in mended), sum(it.packets for it in mended))
-            words.append(f"{packets} packets")
+        if self.mended:
+            words.append(f"{self.mended} packets")
         return "; ".join(words)
 
     def add(self, part: Part) -> bool:

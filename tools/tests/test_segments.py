@@ -4,7 +4,7 @@ import json
 import os
 import struct
 
-from gomtasil import images, segments
+from gomtasil import images, segments, xrit
 from gomtasil.shelf import Shelf
 
 from .support import Case, added, image, needs_pillow, noaa, numbered, packed_bits, record, shelf_of, write
@@ -26,6 +26,8 @@ def records_of(file):
         found.append(record(128, bytes.fromhex(file["record"])))
     if file.get("encrypted"):
         found.append(record(7, b"\1"))
+    if "text" in file:
+        found.append(record(6, file["text"].encode()))
     return found
 
 
@@ -64,6 +66,7 @@ class Segments(Case):
         self.assertEqual([it.numbers for it in groups], [it["files"] for it in case["pictures"]])
         for group, picture, wanted in zip(groups, pictures, case["pictures"]):
             self.assertEqual(segments.in_words(group.missing), wanted["missing"])
+            self.assertEqual(group.mended, xrit.Mended(*wanted["mended"]) if "mended" in wanted else None)
             if wanted.get("none"):
                 self.assertIsNone(picture)
                 continue

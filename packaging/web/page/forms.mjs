@@ -23,7 +23,7 @@ export const CODES = ['nrz-l', 'nrz-m'].flatMap((line) => ['inverted', 'plain'].
  * @property {number} gives the symbols of a unit, or of frames its bytes
  * @property {'symbols' | 'frames'} input
  * @property {(front: Uint8Array) => Turn} turnFor the turn, by the recording's first bytes
- * @typedef {{form: string, code: Code | null}} Found
+ * @typedef {{form: string, code: Code | null, mend?: number}} Found mend: how many fillers an image may have
  * @typedef {{says: string, start: number, code: Code, frames: number, restored: number}} Told
  */
 

@@ -232,7 +232,8 @@ export class Keeper {
    * @returns {Promise<Record<string, unknown>>}
    */
   async drawn(group) {
-    const about = { id: group.id, name: group.name, stamp: stampText(group.header), missing: inWords(group.missing) };
+    const { id, name, mended } = group;
+    const about = { id, name, stamp: stampText(group.header), missing: inWords(group.missing), mended };
     const sent = this.asSent(group);
     if (sent) {
       const { file, kind } = sent;
@@ -275,7 +276,8 @@ export class Keeper {
     if (sent) return { name: stem + sent.kind.ending, bytes: sent.file.data };
     const picture = await this.picture(group);
     const lacks = group.missing.length ? `-lacks-${group.missing.length}` : '';
-    return picture && { name: `${stem}${lacks}.png`, bytes: await pngOf(picture) };
+    const mended = group.mended ? `-mended-${group.mended.fillers}` : '';
+    return picture && { name: `${stem}${lacks}${mended}.png`, bytes: await pngOf(picture) };
   }
 
   /**

@@ -81,7 +81,8 @@ export function receive(station, file, found, keep, tell) {
     else err += new TextDecoder().decode(bytes);
   };
   const input = inputOf(file, found.form, tell);
-  const status = station.live(['receive', ...optionsOf(found)], { input, shelf, put });
+  const mending = found.mend ? ['--mend', String(found.mend)] : [];
+  const status = station.live(['receive', ...optionsOf(found), ...mending], { input, shelf, put });
   const fault = station.fault ? String(station.fault) : '';
   const memory = station.memory.buffer.byteLength;
   tell({ kind: 'received', status, last, err: err.trim(), fault, memory, milliseconds: performance.now() - start });

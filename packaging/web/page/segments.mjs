@@ -1,7 +1,7 @@
 // Which files are parts of one picture: the segment records of NOAA, of Himawari and GK-2A, and of ELEKTRO. Which form
 // a record has, its length says. What is joined is what the tool gomtasil joins; segments.json has cases for both.
 import { nameOf } from './texts.mjs';
-import { KINDS, TYPES, firstOf, structureOf, viewOf } from './xrit.mjs';
+import { KINDS, TYPES, firstOf, mendedOf, structureOf, viewOf } from './xrit.mjs';
 
 const NOAA_BYTES = 14; // image, number from 0, start column, start line, segments, columns, lines
 const NUMBERED_BYTES = 4; // number from 1, segments, start line
@@ -12,6 +12,8 @@ const MOST_RUNS = 20; // of missing numbers that are told
 
 /**
  * @typedef {import('./shelf.mjs').StoredFile} StoredFile
+ * @typedef {import('./xrit.mjs').Mended} Mended
+ * @typedef {{number: number, segment: Segment | null, mended: Mended | null}} Part number: that of the file
  * @typedef {object} Segment which part of which picture a file is
  * @property {string} key the same for all segments of a picture
  * @property {number} number from 0
@@ -111,10 +113,8 @@ export class Group {
     this.id = id;
     this.name = nameOf(file);
     this.header = file.header;
-    /** @type {{number: number, segment: Segment | null}[]} numbers of files on the shelf */
+    /** @type {Part[]} */
     this.parts = [];
-    /** @type {Set<number>} */
-    this.here = new Set();
   }
 
   /** @returns {Segment | null} */
@@ -130,19 +130,34 @@ export class Group {
     const one = this.segment;
     if (!one) return [];
     const all = Array.from({ length: one.total }, (_, place) => place);
-    return all.filter((it) => !this.here.has(it)).map((it) => it + (one.first || 1));
+    const here = new Set(this.parts.map((it) => it.segment?.number));
+    return all.filter((it) => !here.has(it)).map((it) => it + (one.first || 1));
   }
 
   /**
-   * Takes a file. False where it belongs to another picture, as this one has its number already.
-   * @param {number} number
-   * @param {Segment | null} segment
+   * How many packets of its files stand in for some that were lost, or null where none does.
+   * @returns {Mended | null}
+   */
+  get mended() {
+    const all = this.parts.flatMap((it) => (it.mended ? [it.mended] : []));
+    if (!all.length) return null;
+    const sum = (/** @type {'fillers' | 'packets'} */ key) => all.reduce((before, it) => before + it[key], 0);
+    return { fillers: sum('fillers'), packets: sum('packets') };
+  }
+
+  /**
+   * Takes a file. False where it belongs to another picture, as this one has its number already. A segment that is whole
+   * takes the place of a mended one.
+   * @param {Part} part
    * @returns {boolean}
    */
-  add(number, segment) {
-    if (segment && this.here.has(segment.number)) return false;
-    if (segment) this.here.add(segment.number);
-    this.parts.push({ number, segment });
+  add(part) {
+    const { segment, mended } = part;
+    const place = segment ? this.parts.findIndex((it) => it.segment?.number === segment.number) : -1;
+    const old = this.parts[place];
+    if (!old) this.parts.push(part);
+    else if (old.mended && !mended) this.parts[place] = part;
+    else return Boolean(mended && !old.mended);
     return true;
   }
 }
@@ -163,10 +178,11 @@ export class Groups {
    */
   add(file) {
     const segment = segmentOf(file);
+    const part = { number: file.number, segment, mended: file.header && mendedOf(file.header) };
     const opened = segment && this.opened.get(segment.key);
-    if (opened && opened.add(file.number, segment)) return opened;
+    if (opened && opened.add(part)) return opened;
     const group = new Group(this.all.length, file);
-    group.add(file.number, segment);
+    group.add(part);
     this.all.push(group);
     if (segment) this.opened.set(segment.key, group);
     return group;

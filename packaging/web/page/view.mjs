@@ -126,7 +126,7 @@ export class View {
     this.urls.push(url);
     const image = element('img', { src: url, alt: `${sent.name}, as it was sent` });
     image.onerror = () => image.replaceWith(element('p', { textContent: "The browser can't read it." }));
-    const caption = element('figcaption', {}, captionOf([sent.name, sent.stamp, 'as it was sent']));
+    const caption = element('figcaption', {}, captionOf([sent.name, sent.stamp, 'as it was sent', lacksOf({ mended: sent.mended })]));
     const { id, number, member } = sent;
     const what = id === undefined ? { kind: 'saveFile', number, member } : { kind: 'save', id };
     caption.append(button('Save the picture', `Save the picture ${sent.name}`, () => this.ask(what)));
@@ -157,8 +157,10 @@ function captionOf(words) {
 }
 
 /** @param {Message} picture */
-function lacksOf({ missing }) {
-  return missing ? `segments missing: ${missing}` : '';
+function lacksOf({ missing, mended }) {
+  const segments = missing ? `segments missing: ${missing}` : '';
+  const packets = mended ? `${mended.fillers} of ${mended.packets} packets were lost, and are filled in` : '';
+  return [segments, packets].filter(Boolean).join('; ');
 }
 
 /**
@@ -166,13 +168,13 @@ function lacksOf({ missing }) {
  * @param {Message} picture
  * @returns {HTMLCanvasElement}
  */
-function canvasOf({ name, stamp, shown, missing }) {
+function canvasOf({ name, stamp, shown, missing, mended }) {
   const canvas = element('canvas', { width: shown.columns, height: shown.lines });
   const image = new ImageData(shown.columns, shown.lines);
   const words = new Uint32Array(image.data.buffer);
   for (let at = 0; at < words.length; at += 1) words[at] = 0xff000000 | (shown.grey[at] * 0x10101);
   canvas.getContext('2d').putImageData(image, 0, 0);
   canvas.setAttribute('role', 'img');
-  canvas.setAttribute('aria-label', [`Picture ${name}`, stamp, lacksOf({ missing })].filter(Boolean).join(', '));
+  canvas.setAttribute('aria-label', [`Picture ${name}`, stamp, lacksOf({ missing, mended })].filter(Boolean).join(', '));
   return canvas;
 }

@@ -1,12 +1,15 @@
 // The records of a mission file's header, as docs/FORMATS.md has them.
 
-export const KINDS = { primary: 0, structure: 1, annotation: 4, stamp: 5, key: 7, segment: 128, lossless: 131 };
+export const KINDS = { primary: 0, structure: 1, annotation: 4, stamp: 5, text: 6, key: 7, segment: 128, lossless: 131 };
 export const TYPES = { image: 0, gts: 1, text: 2 };
 const PRIMARY_BYTES = 16;
 const RECORD_BYTES = 3; // before what a record holds
 /** @type {Record<number, number>} */
 const FIXED_BYTES = { 1: 9, 2: 51, 5: 10 };
 const LOSSLESS_BYTES = 7;
+const RUN = '\\d{1,7}(?:-\\d{1,7})?'; // the place of a packet that stands in, or the first and the last of several
+const MENDED = new RegExp(`^gomtasil mended (${RUN}(?: ${RUN}){0,1022}) of (\\d{1,7})$`);
+const MOST_FILLERS = 1023;
 const STAMP_FORM = 0x40;
 const STAMP_BEGIN = Date.UTC(1958, 0, 1);
 const DAY_MILLISECONDS = 86_400_000;
@@ -93,4 +96,40 @@ export function stampOf(header) {
   const [days, milliseconds] = [view.getUint16(1), view.getUint32(3)];
   if (found[0] !== STAMP_FORM || milliseconds >= DAY_MILLISECONDS) return null;
   return new Date(STAMP_BEGIN + days * DAY_MILLISECONDS + milliseconds);
+}
+
+/**
+ * How many packets of a file stand in for some that were lost, and all of them.
+ * @typedef {{fillers: number, packets: number}} Mended
+ */
+
+/**
+ * What a text says that names the places of the packets which stand in, as `gomtasil mended 2 8-9 of 13`; or null.
+ * @param {string} text
+ * @returns {Mended | null}
+ */
+function mendedText(text) {
+  const found = MENDED.exec(text);
+  if (!found) return null;
+  const packets = Number(found[2]);
+  let [before, fillers] = [-1, 0];
+  for (const run of found[1].split(' ')) {
+    const [first, last = first] = run.split('-').map(Number);
+    const isLater = before < first && (!run.includes('-') || first < last) && last < packets;
+    if (!isLater) return null;
+    fillers += last - first + 1;
+    before = last;
+  }
+  return fillers <= MOST_FILLERS ? { fillers, packets } : null;
+}
+
+/**
+ * What the last record of that text says, or null where no packet was missing.
+ * @param {Header} header
+ * @returns {Mended | null}
+ */
+export function mendedOf(header) {
+  const texts = header.records.filter((it) => it.kind === KINDS.text).map((it) => it.inside);
+  const found = texts.map((it) => mendedText(new TextDecoder('latin1').decode(it))).filter(Boolean);
+  return found.at(-1) ?? null;
 }

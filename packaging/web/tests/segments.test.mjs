@@ -29,6 +29,7 @@ for (const { name, files, pictures } of cases) {
     for (const [place, group] of groups.all.entries()) {
       const wanted = pictures[place];
       assert.equal(inWords(group.missing), wanted.missing);
+      assert.deepEqual(group.mended, wanted.mended ? { fillers: wanted.mended[0], packets: wanted.mended[1] } : null);
       const picture = await pictureOfGroup(group, stored);
       if (wanted.none) {
         assert.equal(picture, null);

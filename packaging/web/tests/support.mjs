@@ -56,6 +56,7 @@ function recordsOf(file) {
   }
   if (file.record) found.push(record(128, [...Buffer.from(file.record, 'hex')]));
   if (file.encrypted) found.push(record(7, [1]));
+  if (file.text) found.push(record(6, bytesOf(file.text)));
   return found;
 }
 
