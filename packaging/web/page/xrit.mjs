@@ -115,7 +115,7 @@ function mendedText(text) {
   let [before, fillers] = [-1, 0];
   for (const run of found[1].split(' ')) {
     const [first, last = first] = run.split('-').map(Number);
-    const isLater = before < first && (!run.includes('-') || first < last) && last < packets;
+    const isLater = before < first && first <= last && last < packets;
     if (!isLater) return null;
     fillers += last - first + 1;
     before = last;
