@@ -19,6 +19,8 @@ mod limits;
 #[cfg(test)]
 mod listed;
 #[cfg(test)]
+mod mended;
+#[cfg(test)]
 mod packets;
 #[cfg(test)]
 mod read;
