@@ -1,11 +1,11 @@
 -- Calls on a source in memory that is cut at stated places.
 use Rattle.std.proofs.Common.{◌≡◌, ◌<◌, ◌≤◌, ◌+◌, ◌-◌, ℕ, ℤ, List, []}
-use Rattle.std.proofs.Common.{◌∷◌, ◌++◌, length, map, take, drop, refl, sym, ap, ◌∙◌}
+use Rattle.std.proofs.Common.{◌∷◌, ◌++◌, length, map, take, drop, sym, ap, ◌∙◌}
 use Rattle.std.proofs.Common.{subst, arith, inl, ⊎_elim, length-append, Result, Ok, Err}
 use Rattle.std.specs.Prelude.{All, Contains}
 use Rattle.std.specs.List.{concat}
 use Rattle.std.proofs.lemmas.Bool.{cases_lt}
-use Rattle.std.proofs.lemmas.List.{length-take, take-append-drop, take-append-le, take-map}
+use Rattle.std.proofs.lemmas.List.{take-append-drop, take-append-le, take-map}
 use Rattle.std.proofs.lemmas.List.Elements.{All-contains}
 use Rattle.lr_bits.specs.declared.outcome.Outcome.{Outcome}
 use Rattle.lr_bits.specs.declared.refusals.Failed.{Failed}
@@ -33,7 +33,7 @@ use Rattle.lr_lock.specs.declared.sizes.TheConstants.{WINDOW_END}
 use Rattle.lr_reading.proofs.Fronts.{All-first}
 use Rattle.lr_reading.specs.Inputs.{outcomes_of_bytes}
 use Rattle.lr_reading.specs.Readers.{HaveCome}
-use Rattle.lr_reading.specs.Reading.{HaveGiven, LastCall}
+use Rattle.lr_reading.specs.Reading.{HaveGiven}
 use Rattle.lr_shelf.proofs.InitialPrefixes.{begun_way}
 use Rattle.lr_shelf.specs.InitialShelves.{OfWay}
 use Rattle.lr_shelf_format.specs.Way.{IsWay, Way}
