@@ -3,9 +3,7 @@ ghost use Rattle.std.specs.Prelude.{◌≤◌};
 ghost use Rattle.lr_gatecore.specs.declared.sizes.TheConstants.{MOST_SEATS};
 
 use crate::calls::add;
-use crate::image_files::{
-    CODED, ENCRYPTED, FIRST, LINES_OF_FIVE, SECOND, coded_file, field_of, file_of, plain_file,
-};
+use crate::image_files::{ENCRYPTED, coded_file, field_of, file_of, plain_file};
 use lr_bits::MissionFile;
 use lr_causes::{Cause, line_for};
 use lr_cmd_render::{render, render_alone};
@@ -101,7 +99,7 @@ fn with_coded(alloc: Global) -> Result<MemDisk, Fail> {
     add(
         alloc,
         &mut disk,
-        file_of(alloc, &[&flagless, &FIRST, &SECOND])?,
+        file_of(alloc, &[&flagless, &FIRST_LINE, &SECOND_LINE])?,
     )?;
     Ok(disk)
 }
@@ -122,7 +120,7 @@ fn with_gaps(alloc: Global) -> Result<MemDisk, Fail> {
     add(
         alloc,
         &mut disk,
-        file_of(alloc, &[&ENCRYPTED, &FIRST, &SECOND])?,
+        file_of(alloc, &[&ENCRYPTED, &FIRST_LINE, &SECOND_LINE])?,
     )?;
     add(alloc, &mut disk, file_of(alloc, &[&CODED])?)?;
     add(alloc, &mut disk, coded_file(alloc)?)?;
