@@ -96,13 +96,8 @@ fn windows_lead_to_frames(rt: HostRuntime) -> Result<(), Fail> {
     let alloc = rt.alloc();
     let stream = sent_symbols(alloc)?;
     assert!(rt; first_frame_is_plain(alloc, &stream)?);
-    assert!(rt;
-        plain_frames(
-            alloc,
-            STANDARD,
-            &bytes_of(alloc, part(&stream, 0, LOCK_SYMBOLS))?
-        )? == 4
-    );
+    let four = bytes_of(alloc, part(&stream, 0, LOCK_SYMBOLS))?;
+    assert!(rt; plain_frames(alloc, STANDARD, &four)? == 4);
     Ok(())
 }
 

@@ -1,10 +1,11 @@
 //! Images that claim more lines than their packets hold.
 
-use crate::image_files::{CODED, file_of};
+use crate::image_files::file_of;
 use crate::strips::fails_in_the_second_piece;
 use lr_bits::MissionFile;
 use lr_gatecore::Work;
 use lr_render::{Plan, RenderWork, outcome_in_strips};
+use lr_trials_support::CODED;
 use std::alloc::Global;
 use std::test::Fail;
 

@@ -1,29 +1,15 @@
 //! Files that the tests share.
 
 use lr_bits::{Bytes, Lengths, MissionFile, NoMemory};
+use lr_trials_support::{CODED, FIRST_LINE, SECOND_LINE};
 use std::alloc::Global;
 use std::test::Fail;
 
-/// Ten bytes of transport header, then the header of an image of 8 columns and 2 lines, coded without loss.
-pub(crate) const CODED: [u8; 42] = [
-    0, 1, 0, 0, 0, 0, 0, 0, 1, 48, 0, 0, 16, 0, 0, 0, 0, 32, 0, 0, 0, 0, 0, 0, 0, 48, 1, 0, 9, 8,
-    0, 8, 0, 2, 1, 131, 0, 7, 0, 49, 8, 1,
-];
-
-/// A coded line of eight pixels of 5, and one of 5 6 4 5 5 5 5 5.
-pub(crate) const FIRST: [u8; 2] = [0x00, 0x58];
-
-pub(crate) const SECOND: [u8; 4] = [0x40, 0xAA, 0xFA, 0x00];
-
-/// The same with a key record that says that the data is encrypted.
+/// The header of the coded image, with a key record that says that the data is encrypted.
 pub(crate) const ENCRYPTED: [u8; 47] = [
     0, 1, 0, 0, 0, 0, 0, 0, 1, 48, 0, 0, 16, 0, 0, 0, 0, 37, 0, 0, 0, 0, 0, 0, 0, 48, 1, 0, 9, 8,
     0, 8, 0, 2, 1, 131, 0, 7, 0, 49, 8, 1, 7, 0, 5, 0, 1,
 ];
-
-/// The image of those two lines as PGM.
-pub(crate) const LINES_OF_FIVE: &[u8] =
-    b"P5\n8 2\n255\n\x05\x05\x05\x05\x05\x05\x05\x05\x05\x06\x04\x05\x05\x05\x05\x05";
 
 /// Ten bytes of transport header, then the header of an image that isn't compressed.
 pub(crate) fn plain_header(bits: u8, columns: u16, lines: u16) -> [u8; 35] {
@@ -87,7 +73,7 @@ pub(crate) fn field_of(alloc: Global, size: usize) -> Result<Vec<u8>, Fail> {
 
 /// The file of the two coded lines.
 pub(crate) fn coded_file(alloc: Global) -> Result<MissionFile, Fail> {
-    file_of(alloc, &[&CODED, &FIRST, &SECOND])
+    file_of(alloc, &[&CODED, &FIRST_LINE, &SECOND_LINE])
 }
 
 /// The file of an image that isn't compressed, whose data field has this many bytes, in bodies of at most 50,000.

@@ -3,16 +3,17 @@ ghost use Rattle.std.specs.Prelude.{◌≤◌};
 ghost use Rattle.lr_gatecore.specs.declared.sizes.TheConstants.{MOST_SEATS};
 
 use crate::calls::add;
-use crate::image_files::{
-    CODED, ENCRYPTED, FIRST, LINES_OF_FIVE, SECOND, coded_file, field_of, file_of, plain_file,
-};
+use crate::image_files::{ENCRYPTED, coded_file, field_of, file_of, plain_file};
 use lr_bits::MissionFile;
 use lr_causes::{Cause, line_for};
 use lr_cmd_render::{render, render_alone};
 use lr_disk::MemDisk;
 use lr_io::MemSink;
 use lr_shelf::Shelf;
-use lr_trials_support::{BAD_CHECKSUM, End, OUTPUT_FAILED, bytes_with, disk, is_number, is_text};
+use lr_trials_support::{
+    BAD_CHECKSUM, CODED, End, FIRST_LINE, LINES_OF_FIVE, OUTPUT_FAILED, SECOND_LINE, bytes_with,
+    disk, is_number, is_text,
+};
 use std::alloc::Global;
 use std::sync::Wait;
 use std::test::Fail;
@@ -101,7 +102,7 @@ fn with_coded(alloc: Global) -> Result<MemDisk, Fail> {
     add(
         alloc,
         &mut disk,
-        file_of(alloc, &[&flagless, &FIRST, &SECOND])?,
+        file_of(alloc, &[&flagless, &FIRST_LINE, &SECOND_LINE])?,
     )?;
     Ok(disk)
 }
@@ -122,7 +123,7 @@ fn with_gaps(alloc: Global) -> Result<MemDisk, Fail> {
     add(
         alloc,
         &mut disk,
-        file_of(alloc, &[&ENCRYPTED, &FIRST, &SECOND])?,
+        file_of(alloc, &[&ENCRYPTED, &FIRST_LINE, &SECOND_LINE])?,
     )?;
     add(alloc, &mut disk, file_of(alloc, &[&CODED])?)?;
     add(alloc, &mut disk, coded_file(alloc)?)?;

@@ -1,12 +1,12 @@
 //! What strips have, and what they make together.
 
-use crate::image_files::{CODED, FIRST, SECOND, file_of, plain_file};
+use crate::image_files::{file_of, plain_file};
 use lr_bits::{Bytes, MissionFile, NoMemory};
 use lr_gatecore::Work;
 use lr_image::{Image, ImageFault, image_of};
 use lr_render::{Coding, Plan, RenderWork, Strip, StripSource, outcome_in_strips};
 use lr_rice::RiceFault;
-use lr_trials_support::is_number;
+use lr_trials_support::{CODED, FIRST_LINE, SECOND_LINE, is_number};
 use std::alloc::Global;
 use std::test::Fail;
 
@@ -60,9 +60,21 @@ fn has_strips(alloc: Global, file: MissionFile, wanted: &[u32]) -> Result<bool, 
 fn each_piece_is_a_strip(rt: HostRuntime) -> Result<(), Fail> {
     let alloc = rt.alloc();
     let pixels = [5, 5, 5, 5, 5, 5, 5, 5, 5, 6, 4, 5, 5, 5, 5, 5];
-    assert!(rt; has_pixels(alloc, file_of(alloc, &[&CODED, &FIRST, &SECOND])?, &pixels));
-    assert!(rt; has_strips(alloc, file_of(alloc, &[&CODED, &FIRST, &SECOND])?, &[1, 1])?);
-    assert!(rt; is_short(alloc, file_of(alloc, &[&CODED, &FIRST])?, 8));
+    assert!(rt;
+        has_pixels(
+            alloc,
+            file_of(alloc, &[&CODED, &FIRST_LINE, &SECOND_LINE])?,
+            &pixels
+        )
+    );
+    assert!(rt;
+        has_strips(
+            alloc,
+            file_of(alloc, &[&CODED, &FIRST_LINE, &SECOND_LINE])?,
+            &[1, 1]
+        )?
+    );
+    assert!(rt; is_short(alloc, file_of(alloc, &[&CODED, &FIRST_LINE])?, 8));
     Ok(())
 }
 
@@ -82,11 +94,14 @@ pub(crate) fn fails_in_the_second_piece(
 #[test]
 fn the_first_fault_is_named(rt: HostRuntime) -> Result<(), Fail> {
     let alloc = rt.alloc();
-    let cut = file_of(alloc, &[&CODED, &FIRST, &SECOND[..2]])?;
+    let cut = file_of(alloc, &[&CODED, &FIRST_LINE, &SECOND_LINE[..2]])?;
     assert!(rt; fails_in_the_second_piece(outcome_in_strips(alloc, cut)));
     let mut flagless = CODED;
     flagless[39] = 17;
-    let outcome = outcome_in_strips(alloc, file_of(alloc, &[&flagless, &FIRST, &SECOND])?);
+    let outcome = outcome_in_strips(
+        alloc,
+        file_of(alloc, &[&flagless, &FIRST_LINE, &SECOND_LINE])?,
+    );
     assert!(rt; matches!(outcome, Ok(Err(ImageFault::Flags { flags: 17 }))));
     Ok(())
 }

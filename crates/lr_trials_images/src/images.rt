@@ -5,6 +5,7 @@ use lr_bits::{Bytes, Lengths, MissionFile, NoMemory};
 use lr_headers::HeaderFault;
 use lr_image::{Image, ImageFault, image_of, pgm_head, pgm_line};
 use lr_rice::RiceFault;
+use lr_trials_support::{FIRST_LINE, SECOND_LINE};
 use std::alloc::Global;
 use std::fmt::Debug;
 use std::test::Fail;
@@ -31,29 +32,22 @@ pub(crate) enum Wanted {
 /// The bodies of a file, and what becomes of it.
 pub(crate) struct Case(pub(crate) &'static [Body], pub(crate) Wanted);
 
-/// Ten bytes of transport header, then the header of an image of 8 columns and 2 lines, coded without loss.
-const CODED_BYTES: [u8; 42] = [
-    0, 1, 0, 0, 0, 0, 0, 0, 1, 48, 0, 0, 16, 0, 0, 0, 0, 32, 0, 0, 0, 0, 0, 0, 0, 48, 1, 0, 9, 8,
-    0, 8, 0, 2, 1, 0x83, 0, 7, 0, 49, 8, 1,
-];
+/// The header of the coded image of 8 columns and 2 lines.
+pub(crate) const CODED: Body = Body::Bytes(&lr_trials_support::CODED);
 
-pub(crate) const CODED: Body = Body::Bytes(&CODED_BYTES);
-
-/// The same with a key record.
+/// The header of the coded image with a key record.
 const KEYED: Body = Body::Bytes(&[
     0, 1, 0, 0, 0, 0, 0, 0, 1, 48, 0, 0, 16, 0, 0, 0, 0, 37, 0, 0, 0, 0, 0, 0, 0, 48, 1, 0, 9, 8,
     0, 8, 0, 2, 1, 0x83, 0, 7, 0, 49, 8, 1, 7, 0, 5, 0, 0,
 ]);
 
 /// A coded line of eight pixels of 5, and one of 5 6 4 5 5 5 5 5.
-pub(crate) const FIRST: Body = Body::Bytes(&[0x00, 0x58]);
+pub(crate) const FIRST: Body = Body::Bytes(&FIRST_LINE);
 
-pub(crate) const SECOND: Body = Body::Bytes(&[0x40, 0xAA, 0xFA, 0x00]);
+pub(crate) const SECOND: Body = Body::Bytes(&SECOND_LINE);
 
 /// Their image.
-pub(crate) const LINES_OF_FIVE: Wanted = Picture(
-    b"P5\n8 2\n255\n\x05\x05\x05\x05\x05\x05\x05\x05\x05\x06\x04\x05\x05\x05\x05\x05",
-);
+pub(crate) const LINES_OF_FIVE: Wanted = Picture(lr_trials_support::LINES_OF_FIVE);
 
 /// The header of an image that isn't compressed.
 fn plain(bits: u8, columns: u16, lines: u16) -> [u8; 35] {
@@ -67,7 +61,7 @@ fn plain(bits: u8, columns: u16, lines: u16) -> [u8; 35] {
 
 /// The header of a coded image of 8 columns.
 fn coded_header(lines: u8, block: u8, each: u8) -> [u8; 42] {
-    let mut header = CODED_BYTES;
+    let mut header = lr_trials_support::CODED;
     header[33] = lines;
     header[40] = block;
     header[41] = each;
@@ -75,7 +69,7 @@ fn coded_header(lines: u8, block: u8, each: u8) -> [u8; 42] {
 }
 
 fn with_byte(place: usize, byte: u8) -> [u8; 42] {
-    let mut header = CODED_BYTES;
+    let mut header = lr_trials_support::CODED;
     if place < header.len() {
         header[place] = byte;
     }

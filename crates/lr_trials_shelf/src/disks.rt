@@ -1,11 +1,10 @@
 //! Shelves on files, on files that move few bytes a call, and disks at their limits.
 use crate::shared::{
-    add_first, append, at, check, disk, file, fill, holds, holds_first, holds_two, init,
-    is_no_shelf, is_number, load,
+    add_first, append, at, check, disk, file, fill, holds, holds_first, holds_two, init, load,
 };
 use lr_bits::{Origin, Placed};
 use lr_disk::{Disk, FileDisk, MemDisk, MemFile, SureDisk};
-use lr_shelf::Shelf;
+use lr_shelf::{Shelf, ShelfError};
 use std::alloc::Global;
 use std::fs::{self, File};
 use std::io;
@@ -43,7 +42,8 @@ fn limits_are_kept(alloc: Global) -> Result<bool, Fail> {
 
 fn a_sure_disk_is_empty(alloc: Global) -> bool {
     let mut sure = SureDisk::new();
-    is_no_shelf(load(alloc, &mut sure), 0) && init(&mut sure, 20).is_ok()
+    matches!(load(alloc, &mut sure), Err(ShelfError::NotAShelf { at: 0 }))
+        && init(&mut sure, 20).is_ok()
 }
 
 /// An empty file, which is open to be read and written.
@@ -68,7 +68,7 @@ fn large(alloc: Global) -> Result<Placed, Fail> {
 fn add_large(alloc: Global, real: &mut FileDisk) -> Result<bool, Fail> {
     let placed = large(alloc)?;
     let mut shelf = load(alloc, real)?;
-    let added = is_number(append(&mut shelf, real, &placed), 0);
+    let added = append(&mut shelf, real, &placed)? == 0;
     Ok(added && add_first(alloc, &mut shelf, real)? == 1)
 }
 

@@ -86,24 +86,23 @@ pub(crate) fn with_byte(alloc: Global, place: usize, byte: u8) -> Result<MemDisk
     disk(alloc, &bytes_with(alloc, whole.as_slice(), place, byte)?)
 }
 
+/// What a call of a shelf answers.
+pub(crate) type Answered<T> = Result<T, ShelfError>;
+
 // ---- calls
 
-pub(crate) fn init<D: Disk>(disk: &mut D, capacity: u64) -> Result<(), ShelfError> {
+pub(crate) fn init<D: Disk>(disk: &mut D, capacity: u64) -> Answered<()> {
     if capacity < LEAST_CAPACITY || capacity > MOST_CAPACITY {
         return Err(ShelfError::Failed);
     }
     Shelf::init(disk, capacity)
 }
 
-pub(crate) fn load<D: Disk>(alloc: Global, disk: &mut D) -> Result<Shelf, ShelfError> {
+pub(crate) fn load<D: Disk>(alloc: Global, disk: &mut D) -> Answered<Shelf> {
     Shelf::load(alloc, disk)
 }
 
-pub(crate) fn append<D: Disk>(
-    shelf: &mut Shelf,
-    disk: &mut D,
-    placed: &Placed,
-) -> Result<u64, ShelfError> {
+pub(crate) fn append<D: Disk>(shelf: &mut Shelf, disk: &mut D, placed: &Placed) -> Answered<u64> {
     shelf.append(disk, placed)
 }
 
@@ -127,53 +126,33 @@ pub(crate) fn add_second<D: Disk>(
     Ok(append(shelf, disk, &placed)?)
 }
 
-pub(crate) fn discard<D: Disk>(
-    shelf: &mut Shelf,
-    disk: &mut D,
-    number: u64,
-) -> Result<(), ShelfError> {
+pub(crate) fn discard<D: Disk>(shelf: &mut Shelf, disk: &mut D, number: u64) -> Answered<()> {
     shelf.discard(disk, number)
 }
 
-pub(crate) fn get<D: Disk>(
-    shelf: &mut Shelf,
-    disk: &mut D,
-    number: u64,
-) -> Result<Stored, ShelfError> {
+pub(crate) fn get<D: Disk>(shelf: &mut Shelf, disk: &mut D, number: u64) -> Answered<Stored> {
     shelf.get(disk, number)
 }
 
-pub(crate) fn check<D: Disk>(
-    shelf: &mut Shelf,
-    disk: &mut D,
-    number: u64,
-) -> Result<(), ShelfError> {
+pub(crate) fn check<D: Disk>(shelf: &mut Shelf, disk: &mut D, number: u64) -> Answered<()> {
     shelf.check(disk, number)
 }
 
 // ---- answers
 
-pub(crate) fn is_number(answer: Result<u64, ShelfError>, number: u64) -> bool {
-    matches!(answer, Ok(n) if n == number)
-}
-
-pub(crate) fn is_disk<T: Drop>(answer: Result<T, ShelfError>) -> bool {
+pub(crate) fn is_disk<T: Drop>(answer: Answered<T>) -> bool {
     matches!(answer, Err(ShelfError::Disk))
 }
 
-pub(crate) fn is_failed<T: Drop>(answer: Result<T, ShelfError>) -> bool {
+pub(crate) fn is_failed<T: Drop>(answer: Answered<T>) -> bool {
     matches!(answer, Err(ShelfError::Failed))
 }
 
-pub(crate) fn is_past<T: Drop>(answer: Result<T, ShelfError>, files: u64) -> bool {
+pub(crate) fn is_past<T: Drop>(answer: Answered<T>, files: u64) -> bool {
     matches!(answer, Err(ShelfError::NoSuchFile { count }) if count == files)
 }
 
-pub(crate) fn is_no_shelf<T: Drop>(answer: Result<T, ShelfError>, place: u64) -> bool {
-    matches!(answer, Err(ShelfError::NotAShelf { at }) if at == place)
-}
-
-pub(crate) fn is_not_empty(answer: Result<(), ShelfError>, size: u64) -> bool {
+pub(crate) fn is_not_empty(answer: Answered<()>, size: u64) -> bool {
     matches!(answer, Err(ShelfError::NotEmpty { length }) if length == size)
 }
 

@@ -6,18 +6,13 @@ use lr_disk::MemDisk;
 use lr_trials_station::call::written_on;
 use lr_trials_station::steps::{FRAMES, Piece, Step, hold, hold_on};
 use lr_trials_support::{
-    BAD_CHECKSUM, DONE, End, GONE, ITEM_7, ITEM_8, NOT_IMAGE, disk, is_number, is_text,
+    BAD_CHECKSUM, CODED, DONE, End, FIRST_LINE, GONE, ITEM_7, ITEM_8, LINES_OF_FIVE, NOT_IMAGE,
+    SECOND_LINE, disk, is_number, is_text,
 };
 use std::alloc::Global;
 use std::test::Fail;
 
-/// Ten bytes of transport header, then the header of an image of 8 columns and 2 lines, coded without loss.
-const CODED: [u8; 42] = [
-    0, 1, 0, 0, 0, 0, 0, 0, 1, 48, 0x00, 0x00, 0x10, 0x00, 0x00, 0x00, 0x00, 0x20, 0, 0, 0, 0, 0,
-    0, 0, 48, 0x01, 0x00, 0x09, 8, 0, 8, 0, 2, 1, 0x83, 0x00, 0x07, 0x00, 49, 8, 1,
-];
-
-/// The same with a key record.
+/// The header of the coded image, with a key record.
 const KEYED: [u8; 47] = [
     0, 1, 0, 0, 0, 0, 0, 0, 1, 48, 0x00, 0x00, 0x10, 0x00, 0x00, 0x00, 0x00, 0x25, 0, 0, 0, 0, 0,
     0, 0, 48, 0x01, 0x00, 0x09, 8, 0, 8, 0, 2, 1, 0x83, 0x00, 0x07, 0x00, 49, 8, 1, 0x07, 0x00,
@@ -35,9 +30,9 @@ const IMAGE: Body = Body(&CODED, &[]);
 
 const WITH_KEY: Body = Body(&KEYED, &[]);
 
-const FIRST: Body = Body(&[0x00, 0x58], &[]);
+const FIRST: Body = Body(&FIRST_LINE, &[]);
 
-const SECOND: Body = Body(&[0x40, 0xAA, 0xFA, 0x00], &[]);
+const SECOND: Body = Body(&SECOND_LINE, &[]);
 
 const NO_BYTES: Body = Body(&[], &[]);
 
@@ -52,10 +47,7 @@ const JOINED: Body = Body(
 );
 
 /// The image of both lines.
-const EXPORTED: Step = Step::Writes(
-    "export 0",
-    b"P5\n8 2\n255\n\x05\x05\x05\x05\x05\x05\x05\x05\x05\x06\x04\x05\x05\x05\x05\x05",
-);
+const EXPORTED: Step = Step::Writes("export 0", LINES_OF_FIVE);
 
 /// In the last one the first piece begins in the middle of a body.
 static CODED_LINES: [Case; 4] = [

@@ -91,8 +91,3 @@ pub fn is_number<W: Display + Drop>(what: W, came: u64, wanted: u64) -> Result<b
     }
     Err(Fail::new(format_args!("{what} is {came}, and not {wanted}")))
 }
-
-/// Whether this status came.
-pub fn is_status(came: u8, wanted: u8) -> Result<bool, Fail> {
-    is_number("the status", u64::from(came), u64::from(wanted))
-}
