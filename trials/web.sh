@@ -25,9 +25,12 @@ fail() {
     exit 1
 }
 
-# Runs a part, and keeps its last line.
+# Runs a part, without a word where it passes.
+quietly() { "$@" > "$scratch/said" 2>&1 || fail "$(tail -n 40 "$scratch/said")"; }
+
+# Runs a part, and tells its last lines.
 part() {
-    "$@" > "$scratch/said" 2>&1 || fail "$(tail -n 40 "$scratch/said")"
+    quietly "$@"
     tail -n 2 "$scratch/said"
 }
 
@@ -50,16 +53,17 @@ PYTHONDONTWRITEBYTECODE=1
 export PYTHONDONTWRITEBYTECODE
 mkdir "$scratch/files" "$scratch/shots"
 SHOTS=${SHOTS:-$scratch/shots}
-part "$python" "$top/packaging/web/retarget_test.py" > /dev/null
+quietly "$python" "$top/packaging/web/retarget_test.py"
 (cd "$top/packaging/web" && node --test tests/) > "$scratch/said" 2>&1 || fail "$(grep -A 12 '^not ok' "$scratch/said")"
 tests=$(sed -n 's/^# pass //p' "$scratch/said")
 if command -v tsc > /dev/null; then
-    part tsc --noEmit --allowJs --checkJs --strict --target es2022 --module es2022 --moduleResolution node --lib es2022,dom,webworker \
-        "$top/packaging/web/page/page.mjs" "$top/packaging/web/page/worker.mjs" > /dev/null
+    quietly tsc --noEmit --allowJs --checkJs --strict --skipLibCheck --target es2022 --module es2022 \
+        --moduleResolution node --lib es2022,dom,webworker "$top/packaging/web/page/page.mjs" \
+        "$top/packaging/web/page/worker.mjs"
 else
     skipped="$skipped types (tsc);"
 fi
-part "$python" "$top/trials/web/files.py" "$LRITSTATION" "$scratch/files" > /dev/null
+quietly "$python" "$top/trials/web/files.py" "$LRITSTATION" "$scratch/files"
 node="node --no-warnings --experimental-wasm-memory64"
 # shellcheck disable=SC2086 # (they are several words)
 part $node "$top/trials/web/same.mjs" "$LRITSTATION" "$scratch/files" "$PAGE"
