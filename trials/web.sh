@@ -7,7 +7,8 @@
 # Usage: trials/web.sh. Needs rt, python3 and Node 20 or later (node); chromium, firefox-esr, tsc and Pillow for some
 # parts each, and some 2 GB of disk. $LRITSTATION may name the built program, and $PAGE a folder with receiver.html and
 # the modules (as MODULES=FOLDER packaging/web.sh FOLDER leaves it), which is then not made. TIMES in the environment says
-# how often the recording stands in the long one, 100 by default.
+# how often the recording stands in the long one, 100 by default, and PATIENCE how many times as long a browser is waited
+# for, for a machine with other load.
 top=$(cd "$(dirname "$0")/.." && pwd)
 for tool in python3 node; do
     command -v $tool > /dev/null || { echo "trials/web.sh: $tool is missing, so nothing was tried"; exit 77; }
