@@ -6,9 +6,9 @@
 # network. What it looks like goes to $SHOTS, where that is a folder.
 # Usage: trials/web.sh. Needs rt, python3 and Node 20 or later (node); chromium, firefox-esr, tsc and Pillow for some
 # parts each, and some 2 GB of disk. $LRITSTATION may name the built program, and $PAGE a folder with receiver.html and
-# the modules (as MODULES=FOLDER packaging/web.sh FOLDER leaves it), which is then not made. TIMES in the environment says
-# how often the recording stands in the long one, 100 by default, and PATIENCE how many times as long a browser is waited
-# for, for a machine with other load.
+# the modules (as MODULES=FOLDER packaging/web.sh FOLDER leaves it), which is then not made. TIMES in the environment
+# says how often the recording stands in the long one, 100 by default, and PATIENCE how many times as long a browser is
+# waited for, for a machine with other load.
 top=$(cd "$(dirname "$0")/.." && pwd)
 for tool in python3 node; do
     command -v $tool > /dev/null || { echo "trials/web.sh: $tool is missing, so nothing was tried"; exit 77; }
@@ -44,7 +44,8 @@ if [ -z "${PAGE-}" ]; then
     PAGE=$scratch/page
     for folder in "$PAGE" "$scratch/again"; do
         mkdir -p "$folder"
-        MODULES=$folder "$top/packaging/web.sh" "$folder" > "$scratch/build.log" 2>&1 || fail "$(cat "$scratch/build.log")"
+        MODULES=$folder "$top/packaging/web.sh" "$folder" > "$scratch/build.log" 2>&1 ||
+            fail "$(cat "$scratch/build.log")"
     done
     diff -r "$PAGE" "$scratch/again" > /dev/null || fail "the page has other bytes when it is made again"
 else
