@@ -1,9 +1,9 @@
 #!/bin/sh
-# Makes the station as a library for C, and for all that can call C: FOLDER/liblritstation.a and .so.1 with the link .so,
-# lritstation.h and lritstation.pc, and says the folder. As ./lritstation does, it has rt ci prove a copy of the crates
-# below, which keeps what it proved, and proves lr_embed (lr_run) and lr_live, which stands outside of crates/ and which
-# devices.c leads to functions of the caller (lr_run_over). What was proved is compiled and linked by the kit's tools.
-# The archive has what it needs of the kit in it. The same commit gives the same bytes.
+# Makes the station as a library for C, and for all that can call C: FOLDER/liblritstation.a and .so.1 with the link
+# .so, lritstation.h and lritstation.pc, and says the folder. As ./lritstation does, it has rt ci prove a copy of the
+# crates below, which keeps what it proved, and proves lr_embed (lr_run) and lr_live, which stands outside of crates/
+# and which devices.c leads to functions of the caller (lr_run_over). What was proved is compiled and linked by the
+# kit's tools. The archive has what it needs of the kit in it. The same commit gives the same bytes.
 # Usage: packaging/library.sh [FOLDER], by default the folder out/library. Needs rt and glibc.
 # shellcheck disable=SC2034,SC2154 # (some are set in what is read, and some used there)
 top=$(cd -- "$(dirname -- "$0")/.." && pwd) || exit 1

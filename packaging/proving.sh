@@ -1,7 +1,7 @@
-# What `lritstation` and packaging's arm64.sh, library.sh and web.sh share: the proofs of a copy of the crates, and the words
-# of a build over it. They read it, so it is no script of its own. $top is the top of the repository, $program the path of
-# the built program, and $called the name under which progress is told. What is built is the crate $crate, whose root is
-# $root, and $product says what that is.
+# What `lritstation` and packaging's arm64.sh, library.sh and web.sh share: the proofs of a copy of the crates, and the
+# words of a build over it. They read it, so it is no script of its own. $top is the top of the repository, $program the
+# path of the built program, and $called the name under which progress is told. What is built is the crate $crate, whose
+# root is $root, and $product says what that is.
 # shellcheck shell=sh
 
 # Makes the folder $scratch. It goes when the script ends, by a signal too: the proofs, $proving, end then, and the

@@ -1,9 +1,9 @@
 #!/bin/sh
-# Makes the receiver as a web page, FOLDER/receiver.html, and says its name: one file that works from a disk and from any
-# server. As packaging/library.sh does, it has rt ci prove a copy of the crates below, which keeps what it proved, and
-# proves lr_embed, and lr_live, which stands outside of crates/. The module that the kit's compiler makes of each is given
-# to the kit's clang once more, for WebAssembly with a memory of 64 bits and with vectors; web/retarget.py looks that
-# nothing in it is of another machine. The same commit gives the same bytes.
+# Makes the receiver as a web page, FOLDER/receiver.html, and says its name: one file that works from a disk and from
+# any server. As packaging/library.sh does, it has rt ci prove a copy of the crates below, which keeps what it proved,
+# and proves lr_embed, and lr_live, which stands outside of crates/. The module that the kit's compiler makes of each is
+# given to the kit's clang once more, for WebAssembly with a memory of 64 bits and with vectors; web/retarget.py looks
+# that nothing in it is of another machine. The same commit gives the same bytes.
 # Usage: packaging/web.sh [FOLDER], by default the folder out/web. Needs rt, python3 and git. No network.
 # shellcheck disable=SC2034,SC2154 # (some are set in what is read, and some used there)
 top=$(cd -- "$(dirname -- "$0")/.." && pwd) || exit 1
@@ -45,15 +45,16 @@ END
 compile() {
     rm -f "$scratch/module.bc"
     with_words "$scratch/keeping" "$kit/bin/rattle" build --crate-type staticlib -o "$made/station.a"
-    if [ ! -f "$scratch/module.bc" ] || [ ! -f "$made/station.a" ] || ! grep -q '^logic=proved ' "$scratch/log"; then
+    if [ ! -f "$scratch/module.bc" ] || [ ! -f "$made/station.a" ] ||
+        ! grep -q '^logic=proved ' "$scratch/log"; then
         cat "$scratch/log" >&2
         return 1
     fi
     grep '^logic=proved ' "$scratch/log" >&2
 }
 
-# for_web EXPORT OPTIMISING NAME..: makes $scratch/modules/EXPORT.wasm of $scratch/module.bc. NAME.. are the functions of
-# its host that it may import.
+# for_web EXPORT OPTIMISING NAME..: makes $scratch/modules/EXPORT.wasm of $scratch/module.bc. NAME.. are the functions
+# of its host that it may import.
 for_web() {
     export=$1
     optimising=$2
@@ -84,7 +85,7 @@ for tool in rt python3; do
 done
 scratch_folder
 find_kit || fail "rt doc doesn't say where the kit is"
-keeping_toolchain && mkdir "$scratch/modules" || fail "the tools of the kit can't be linked to"
+{ keeping_toolchain && mkdir "$scratch/modules"; } || fail "the tools of the kit can't be linked to"
 # shellcheck disable=SC2086 # (they are several)
 prove_below && compile && for_web lr_run -Os $heap || exit 1
 # shellcheck disable=SC2086

@@ -1,8 +1,8 @@
 /*
  * Runs one command of the station by the library: library WAY SHELF INPUT WORD.. A `-` for INPUT is no input. With the
- * WAY `bytes` the shelf's bytes are read and written back whole, and where a room fills up the command is run again from
- * the same bytes, with twice of each. With `devices` both are files that the library reads and writes. It ends with the
- * command's status, or 90 where there was none.
+ * WAY `bytes` the shelf's bytes are read and written back whole, and where a room fills up the command is run again
+ * from the same bytes, with twice of each. With `devices` both are files that the library reads and writes. It ends
+ * with the command's status, or 90 where there was none.
  */
 #define _POSIX_C_SOURCE 200809L
 #include <lritstation.h>
@@ -101,8 +101,8 @@ static uint32_t over_bytes(const char *path, const char *given, const char *word
     for (size_t room = 65536; room <= (size_t)1 << 30; room *= 2) {
         out = realloc(out, room);
         kept = realloc(kept, room);
-        answer = lr_run((const uint8_t *)words, strlen(words), input.at, input.length, shelf.at, shelf.length, room / 16,
-                        out, room, err, 4096, kept, room, &counts);
+        answer = lr_run((const uint8_t *)words, strlen(words), input.at, input.length, shelf.at, shelf.length,
+                        room / 16, out, room, err, 4096, kept, room, &counts);
         if (answer != 4 && answer != 5 && answer != LR_NO_ROOM) break;
     }
     if (answer >= 256) return answer;

@@ -1,10 +1,10 @@
 #!/bin/sh
-# The library for C: a small program, library.c, runs commands by it over bytes in memory and over devices of its own, and
-# the built program runs the same over files. Status, what is printed, the line on why it ended and the bytes of the shelf
-# are the same; so they are where the rooms filled up at first. The library is made twice, with the same bytes. Then the
-# tests of the tool's module for it.
-# Usage: trials/library.sh. Needs rt, python3, and a C compiler. $LRITSTATION may name the built program, and $LIBRARY the
-# folder of a library that packaging/library.sh made, which is then not made.
+# The library for C: a small program, library.c, runs commands by it over bytes in memory and over devices of its own,
+# and the built program runs the same over files. Status, what is printed, the line on why it ended and the bytes of the
+# shelf are the same; so they are where the rooms filled up at first. The library is made twice, with the same bytes.
+# Then the tests of the tool's module for it.
+# Usage: trials/library.sh. Needs rt, python3, and a C compiler. $LRITSTATION may name the built program, and $LIBRARY
+# the folder of a library that packaging/library.sh made, which is then not made.
 top=$(cd "$(dirname "$0")/.." && pwd)
 for tool in python3 cc; do
     command -v $tool > /dev/null || { echo "trials/library.sh: $tool is missing, so nothing was tried"; exit 77; }
@@ -90,7 +90,8 @@ printf 'no shelf' > shelf
 same none list
 same none init 1000000
 export LRITSTATION LRITSTATION_LIBRARY="$LIBRARY" PYTHONDONTWRITEBYTECODE=1
-(cd "$top/tools" && python3 -m unittest tests.test_embedded) > "$scratch/said" 2>&1 || fail "$(tail -n 30 "$scratch/said")"
+(cd "$top/tools" && python3 -m unittest tests.test_embedded) > "$scratch/said" 2>&1 ||
+    fail "$(tail -n 30 "$scratch/said")"
 tests=$(sed -n 's/^Ran \([0-9]*\) tests.*/\1/p' "$scratch/said")
-echo "trials/library.sh: $commands commands, each by the program, by the library that is loaded and by the one that is linked," \
-    "over bytes and over devices; $tests tests from within Python"
+echo "trials/library.sh: $commands commands, each by the program, by the library that is loaded and by the one that" \
+    "is linked, over bytes and over devices; $tests tests from within Python"

@@ -6,8 +6,9 @@
 # network. What it looks like goes to $SHOTS, where that is a folder.
 # Usage: trials/web.sh. Needs rt, python3 and Node 20 or later (node); chromium, firefox-esr, tsc and Pillow for some
 # parts each, and some 2 GB of disk. $LRITSTATION may name the built program, and $PAGE a folder with receiver.html and
-# the modules (as MODULES=FOLDER packaging/web.sh FOLDER leaves it), which is then not made. TIMES in the environment says
-# how often the recording stands in the long one, 100 by default.
+# the modules (as MODULES=FOLDER packaging/web.sh FOLDER leaves it), which is then not made. TIMES in the environment
+# says how often the recording stands in the long one, 100 by default, and PATIENCE how many times as long a browser is
+# waited for, for a machine with other load.
 top=$(cd "$(dirname "$0")/.." && pwd)
 for tool in python3 node; do
     command -v $tool > /dev/null || { echo "trials/web.sh: $tool is missing, so nothing was tried"; exit 77; }
@@ -25,9 +26,12 @@ fail() {
     exit 1
 }
 
-# Runs a part, and keeps its last line.
+# Runs a part, without a word where it passes.
+quietly() { "$@" > "$scratch/said" 2>&1 || fail "$(tail -n 40 "$scratch/said")"; }
+
+# Runs a part, and tells its last lines.
 part() {
-    "$@" > "$scratch/said" 2>&1 || fail "$(tail -n 40 "$scratch/said")"
+    quietly "$@"
     tail -n 2 "$scratch/said"
 }
 
@@ -40,7 +44,8 @@ if [ -z "${PAGE-}" ]; then
     PAGE=$scratch/page
     for folder in "$PAGE" "$scratch/again"; do
         mkdir -p "$folder"
-        MODULES=$folder "$top/packaging/web.sh" "$folder" > "$scratch/build.log" 2>&1 || fail "$(cat "$scratch/build.log")"
+        MODULES=$folder "$top/packaging/web.sh" "$folder" > "$scratch/build.log" 2>&1 ||
+            fail "$(cat "$scratch/build.log")"
     done
     diff -r "$PAGE" "$scratch/again" > /dev/null || fail "the page has other bytes when it is made again"
 else
@@ -50,16 +55,17 @@ PYTHONDONTWRITEBYTECODE=1
 export PYTHONDONTWRITEBYTECODE
 mkdir "$scratch/files" "$scratch/shots"
 SHOTS=${SHOTS:-$scratch/shots}
-part "$python" "$top/packaging/web/retarget_test.py" > /dev/null
+quietly "$python" "$top/packaging/web/retarget_test.py"
 (cd "$top/packaging/web" && node --test tests/) > "$scratch/said" 2>&1 || fail "$(grep -A 12 '^not ok' "$scratch/said")"
 tests=$(sed -n 's/^# pass //p' "$scratch/said")
 if command -v tsc > /dev/null; then
-    part tsc --noEmit --allowJs --checkJs --strict --target es2022 --module es2022 --moduleResolution node --lib es2022,dom,webworker \
-        "$top/packaging/web/page/page.mjs" "$top/packaging/web/page/worker.mjs" > /dev/null
+    quietly tsc --noEmit --allowJs --checkJs --strict --skipLibCheck --target es2022 --module es2022 \
+        --moduleResolution node --lib es2022,dom,webworker "$top/packaging/web/page/page.mjs" \
+        "$top/packaging/web/page/worker.mjs"
 else
     skipped="$skipped types (tsc);"
 fi
-part "$python" "$top/trials/web/files.py" "$LRITSTATION" "$scratch/files" > /dev/null
+quietly "$python" "$top/trials/web/files.py" "$LRITSTATION" "$scratch/files"
 node="node --no-warnings --experimental-wasm-memory64"
 # shellcheck disable=SC2086 # (they are several words)
 part $node "$top/trials/web/same.mjs" "$LRITSTATION" "$scratch/files" "$PAGE"

@@ -179,10 +179,12 @@ class Host:
         return call
 
     def filled(self, into: int, part: bytes, most: int) -> int:
-        if len(part) > most:
-            raise EmbeddedError(f"a device gave {len(part)} bytes where {most} were asked for")
-        ctypes.memmove(into, part, len(part))
-        return len(part)
+        # (of what is no bytes a view can't be had)
+        data = memoryview(part).tobytes()
+        if len(data) > most:
+            raise EmbeddedError(f"a device gave {len(data)} bytes where {most} were asked for")
+        ctypes.memmove(into, data, len(data))
+        return len(data)
 
     def take(self, into: int, most: int) -> int:
         return self.filled(into, self.source.read(min(most, PIECE_BYTES)) or b"", most)

@@ -6,8 +6,9 @@ import net from 'node:net';
 import os from 'node:os';
 import path from 'node:path';
 
+const PATIENCE = Number(process.env.PATIENCE ?? 1); // times as long is waited
 const STEP_MILLISECONDS = 50;
-const MARIONETTE_TRIES = 400;
+const MARIONETTE_TRIES = 400 * PATIENCE;
 
 /** @param {number} milliseconds */
 export const pause = (milliseconds) => new Promise((go) => setTimeout(go, milliseconds));
@@ -25,7 +26,7 @@ class Browser {
    * @param {number} seconds
    */
   async until(line, seconds = 60) {
-    for (const end = Date.now() + 1000 * seconds; Date.now() < end; await pause(STEP_MILLISECONDS)) {
+    for (const end = Date.now() + 1000 * seconds * PATIENCE; Date.now() < end; await pause(STEP_MILLISECONDS)) {
       if (await this.evaluate(line)) return;
     }
     const state = await this.evaluate("document.getElementById('state').textContent");
@@ -38,7 +39,7 @@ class Browser {
    * @param {number} seconds
    */
   async saved(name, seconds = 60) {
-    for (const end = Date.now() + 1000 * seconds; Date.now() < end; await pause(STEP_MILLISECONDS)) {
+    for (const end = Date.now() + 1000 * seconds * PATIENCE; Date.now() < end; await pause(STEP_MILLISECONDS)) {
       const names = fs.readdirSync(this.downloads);
       const found = names.find((it) => name.test(it));
       if (found && !names.some((it) => /\.(part|crdownload)$/.test(it))) {
