@@ -382,7 +382,10 @@ Command = Callable[[Callable[[Words], int]], argparse.ArgumentParser]
 def add(it: argparse.ArgumentParser, words: str, help_: str, **more: Any) -> None:
     """Adds an option or a place, as `--only PATTERN` or `folder FOLDER`; a lone word is an option without a value."""
     name, _, value = words.partition(" ")
-    more |= {"metavar": value} if value else {} if "metavar" in more else {"action": "store_true"}
+    if value:
+        more["metavar"] = value
+    elif "metavar" not in more:
+        more["action"] = "store_true"
     it.add_argument(name, help=help_, **more)
 
 
