@@ -64,10 +64,11 @@ fn is_next(maker: &mut Maker, item: &Item) -> Result<(), Fail> {
         }
         Item::Begins(bytes) => {
             maker.next_frame(&mut frame)?;
-            if &frame[..24] == bytes.as_slice() {
+            let front = &frame[..24];
+            if front == bytes.as_slice() {
                 return Ok(());
             }
-            Err(Fail::new(format_args!("{item:?} begins {:?}", &frame[..24])))
+            Err(Fail::new(format_args!("{item:?}: it begins with {front:?}")))
         }
     }
 }
