@@ -10,7 +10,10 @@ use lr_cmd_render::{render, render_alone};
 use lr_disk::MemDisk;
 use lr_io::MemSink;
 use lr_shelf::Shelf;
-use lr_trials_support::{BAD_CHECKSUM, End, OUTPUT_FAILED, bytes_with, disk, is_number, is_text};
+use lr_trials_support::{
+    BAD_CHECKSUM, CODED, End, FIRST_LINE, LINES_OF_FIVE, OUTPUT_FAILED, SECOND_LINE, bytes_with,
+    disk, is_number, is_text,
+};
 use std::alloc::Global;
 use std::sync::Wait;
 use std::test::Fail;
