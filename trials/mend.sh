@@ -10,7 +10,7 @@ top=$(cd "$(dirname "$0")/.." && pwd)
 scratch=$(mktemp -d) || exit 1
 trap 'rm -rf "$scratch"' EXIT
 if [ -z "${LRITSTATION-}" ]; then
-    "$top/lritstation" - frames < /dev/null > "$scratch/build.log" 2>&1 || { cat "$scratch/build.log"; exit 1; }
+    "$top/lritstation" - frames < /dev/null > "$scratch/log" 2>&1 || { cat "$scratch/log"; exit 1; }
     LRITSTATION=$top/crates/lr_program/out/lr_program
 fi
 export LRITSTATION
@@ -40,10 +40,14 @@ for words in '' '--mend 64'; do
     # shellcheck disable=SC2086 # (the words of the option)
     "$LRITSTATION" shelf receive --line nrz-m --g2 plain $words < recording > "out$words" || fail "receive $words"
 done
-[ "$(grep -c '^shelved ' out)" = 3 ] || fail "plain receive gave $(grep -c '^shelved ' out) files of six"
-[ "$(grep -c '^shelved .* mended [0-9]*$' 'out--mend 64')" = 6 ] || fail "--mend 64 gave $(grep -c '^shelved ' 'out--mend 64') files of six"
-[ "$(grep -c ' mended 0$' 'out--mend 64')" = 3 ] || fail "$(grep -c ' mended 0$' 'out--mend 64') files are whole, and not three"
-echo "the sample without six frames: 3 files of 6, and with --mend 64 6 of 6, $(sed -n 's/^shelved .* mended //p' 'out--mend 64' | paste -sd ' ') fillers"
+# is WHAT NUMBER WANTED
+is() { [ "$2" = "$3" ] || fail "$1: $2 of the sample's files, and not $3"; }
+mended='out--mend 64'
+is "receive" "$(grep -c '^shelved ' out)" 3
+is "--mend 64" "$(grep -c '^shelved .* mended [0-9]*$' "$mended")" 6
+is "whole ones" "$(grep -c ' mended 0$' "$mended")" 3
+fillers=$(sed -n 's/^shelved .* mended //p' "$mended" | paste -sd ' ')
+echo "the sample without six frames: 3 files of 6, and with --mend 64 6 of 6, $fillers fillers"
 
 # ---- an image of 2,000 frames
 mkdir images
