@@ -68,15 +68,26 @@ fn ends(alloc: Global, case: &str, call: &Call<'_>, last: &str) -> Result<bool, 
     called(alloc, &mut disk(alloc, &[], 0)?, call)?.ended_with(case, last.as_bytes(), DONE)
 }
 
+/// Whether `decode` ends with this line, in reads of this size.
+fn ends_in(
+    alloc: Global,
+    case: &str,
+    bytes: &[u8],
+    reads: usize,
+    last: &str,
+) -> Result<bool, Fail> {
+    let name = format!(in alloc; "{case}, reads of {reads}")?;
+    ends(alloc, &name, &faultless("decode", bytes, reads), last)
+}
+
 /// Whether `decode` ends with this line, in reads of each size and in both polarities.
 fn ends_alike(alloc: Global, case: &str, symbols: &[i8], last: &str) -> Result<bool, Fail> {
     let bytes = bytes_of(alloc, symbols)?;
     let turned = turned_bytes(alloc, symbols)?;
+    let other = format!(in alloc; "{case}, turned")?;
     for reads in [1, 4_096, 65_536] {
-        let name = format!(in alloc; "{case}, reads of {reads}")?;
-        ends(alloc, &name, &faultless("decode", &bytes, reads), last)?;
-        let name = format!(in alloc; "{case}, turned, reads of {reads}")?;
-        ends(alloc, &name, &faultless("decode", &turned, reads), last)?;
+        ends_in(alloc, case, &bytes, reads, last)?;
+        ends_in(alloc, &other, &turned, reads, last)?;
     }
     Ok(true)
 }
