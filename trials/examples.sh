@@ -248,7 +248,11 @@ try_station() {
     says "station.sh with a source that ends with 3" "SOURCE ended with 3"
     SOURCE="cat symbols; sleep 60" OPTIONS="--line x" ends "station.sh with wrong options" 2 "$examples/station.sh" stationed
     # (a source that stays beside a reception that ends is ended)
-    rm -rf stationed && mkdir stationed && echo "no shelf stands here, and these are more than twenty bytes" > "stationed/$(date -u +%Y-%m-%d).shelf"
+    # (of tomorrow too, since midnight may pass meanwhile)
+    rm -rf stationed && mkdir stationed
+    for day in today tomorrow; do
+        echo "no shelf stands here, and these are more than twenty bytes" > "stationed/$(date -u -d $day +%Y-%m-%d).shelf"
+    done
     SOURCE="cat symbols; exec sleep $long" ends "station.sh whose shelf is none" 6 "$examples/station.sh" stationed
     is "sources that are left" "$(pgrep -f "sleep $long")" ""
     # (the quality side can't write, and the reception has every frame)
