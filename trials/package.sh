@@ -288,10 +288,11 @@ files() { find root -xdev | grep -v '^root/\(run\|tmp\|var/lib/dpkg\|var/lib/apt
 # apt VERB PACKAGE: in the system
 apt() { chroot root apt-get "$1" --yes "$2" > said 2>&1 < /dev/null || fail "apt-get $1: $(cat said)"; }
 
-# in_system WORDS: runs these in the system, which has its own processes and the files of all
+# in_system WORDS: runs these in the system, which has processes of its own and the devices of this machine
 in_system() {
     # shellcheck disable=SC2016 # (they are those of the inner shell)
-    unshare --mount --pid --fork --kill-child sh -c 'mount -t proc proc root/proc && chroot root "$@"; exit $?' sh "$@"
+    unshare --mount --pid --fork --kill-child sh -c \
+        'mount -t proc proc root/proc && mount --bind /dev root/dev && chroot root "$@"; exit $?' sh "$@"
 }
 
 # Other trials, with the program that is installed in the system. (No file of Python's own is to be new then.)
