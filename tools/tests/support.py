@@ -200,6 +200,12 @@ def station(*words, given=b""):
     return done.stdout
 
 
+def children_seconds():
+    """The processor's seconds of the calls that have ended. (Walls grow with what else the machine does.)"""
+    used = resource.getrusage(resource.RUSAGE_CHILDREN)
+    return used.ru_utime + used.ru_stime
+
+
 def wait_for(holds):
     until = time.monotonic() + SECONDS
     while not holds():
