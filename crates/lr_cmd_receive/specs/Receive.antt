@@ -49,7 +49,7 @@ counts_line symbols frames numbers left stop =
       left = left;
     })) stop
 
--- the last line of outcomes, where an image may have so many fillers
+-- the last line of outcomes, where an image has at most `mend` fillers
 unfoldable pub receive_count : ℕ → List Outcome → ℕ → ℕ → Stop → List ℕ
 receive_count mend outcomes symbols left stop =
     counts_line symbols (length outcomes) (mended_numbers_of mend outcomes) left stop

@@ -48,7 +48,7 @@ shelf_in shelf w = record { shelf = shelf; lent = w }
 abbrev pub way_in : {W : Type 0} → ShelfIn W → Way
 way_in at = (kept_by at.shelf).way
 
--- outcomes, and the one after them, where an image may have so many fillers
+-- outcomes, and the one after them, where an image has at most `mend` fillers
 pub record OneMore : Type 0 where
   pub mend : ℕ
   pub earlier : List Outcome
