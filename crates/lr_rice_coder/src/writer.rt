@@ -74,9 +74,9 @@ impl BitWriter {
         ensures { OnOk result (self.new ≡ self.old ++ zeros_and_one zeros) }
     {
         let mut left = zeros;
-        while left >= u64::from(WORD_BITS) {
+        while left >= WORD_BITS as u64 {
             self.number(WORD_BITS, 0)?;
-            left -= u64::from(WORD_BITS);
+            left -= WORD_BITS as u64;
         }
         self.number(left as u32 + 1, 1)
     }
