@@ -69,7 +69,8 @@ size_lacks : (least : ℕ) (s : Structure) → Lacks (size_fault least s) → �
 unfolding size_fault
 size_lacks least s =
     either _ (Depth' s.bits) _ (λ is. cc (is))
-    (either _ Empty' _ (λ is. cc (is)) (either _ (TooLarge' (s.columns * s.lines)) None (λ is. cc (is)) (λ is. cc (is))))
+    (either _ Empty' _ (λ is. cc (is))
+    (either _ (TooLarge' (s.columns * s.lines)) None (λ is. cc (is)) (λ is. cc (is))))
 
 lossless_lacks : (l : Lossless) → Lacks (lossless_fault l) → ⊥
 unfolding lossless_fault
@@ -106,7 +107,8 @@ coded_fails s l =
 structured_fails : (s : Option Structure) (header : Header) → Fails (structured_shape s header) → ⊥
 structured_fails None header is = cc (is)
 structured_fails (Some s) header is =
-    chosen _ (Err Encrypted') (coded_shape s (lossless_of header)) (λ no. cc (no)) (coded_fails s (lossless_of header)) is
+    chosen _ (Err Encrypted') (coded_shape s (lossless_of header)) (λ no. cc (no))
+    (coded_fails s (lossless_of header)) is
 
 shape_fails : (header : Header) → Fails (shape_of header) → ⊥
 shape_fails header =

@@ -140,7 +140,8 @@ bytes_in zero bits = []
 bytes_in (suc n) bits = value_of (take 8 bits) ∷ bytes_in n (drop 8 bits)
 
 module _ where
-  bytes-small : (n : ℕ) (bits : List ℕ) → AreBits bits → 8 * n ≤ length bits → All (λ byte. byte < 256) (bytes_in n bits)
+  bytes-small : (n : ℕ) (bits : List ℕ) → AreBits bits → 8 * n ≤ length bits
+      → All (λ byte. byte < 256) (bytes_in n bits)
   unfolding bytes_in
   bytes-small zero bits are long = none_at (λ (byte : ℕ). byte < 256)
   bytes-small (suc n) bits are long =

@@ -73,7 +73,8 @@ pub returns-in-Err-clause-fill : goal.returns-in-Err-clause-fill
 returns-in-Err-clause-fill c mend outcomes stands fill =
     let stood = subst (λ (k : KeptLayers). MendingLayersStandFor mend k outcomes) (sym c.self.view_is) stands in
     let vc = fill_channel c.in-Restored.corrected c.in-Restored.bytes (fields c.in-Some.frame)
-    (ap (option_map fields) (sym c.in-Some.is) ∙ c.read_frame-read.ensures.frame) (ap is_fill (sym c.in-Restored.is) ∙ fill) in
+    (ap (option_map fields) (sym c.in-Some.is) ∙ c.read_frame-read.ensures.frame)
+    (ap is_fill (sym c.in-Restored.is) ∙ fill) in
     let ok = c.push_frame.ensures.fill stood.channels.unspent vc in
     absurd (cc (subst (λ r. IsOk r) c.in-Err.is ok))
 
