@@ -1,11 +1,11 @@
 #!/bin/sh
 # The library for C: a small program, library.c, runs commands by it over bytes in memory and over devices of its own,
 # and the built program runs the same over files. Status, what is printed, the line on why it ended and the bytes of the
-# shelf are the same; so they are where the rooms filled up at first. The same for arm64, under qemu. Each library is made
-# twice, with the same bytes. Then the tests of the tool's module for it.
+# shelf are the same; so they are where the rooms filled up at first. The same for arm64, under qemu. Each library is
+# made twice, with the same bytes. Then the tests of the tool's module for it.
 # Usage: trials/library.sh. Needs rt, python3, and a C compiler; for arm64 qemu, gcc for arm64 and the packages that
-# packaging/library.sh names, and says so where one is missing. $LRITSTATION may name the built program, and $LIBRARY and
-# $LIBRARY_ARM64 the folders of libraries that packaging/library.sh made, which are then not made.
+# packaging/library.sh names, and says so where one is missing. $LRITSTATION may name the built program, and $LIBRARY
+# and $LIBRARY_ARM64 the folders of libraries that packaging/library.sh made, which are then not made.
 top=$(cd "$(dirname "$0")/.." && pwd)
 for tool in python3 cc; do
     command -v $tool > /dev/null || { echo "trials/library.sh: $tool is missing, so nothing was tried"; exit 77; }
@@ -29,7 +29,7 @@ made() {
     for folder in "$scratch/$1" "$scratch/again"; do
         "$top/packaging/library.sh" "$folder" "$1" > "$scratch/build.log" 2>&1 || fail "$(cat "$scratch/build.log")"
     done
-    diff -r "$scratch/$1" "$scratch/again" > /dev/null || fail "the library for $1 has other bytes when it is made again"
+    diff -r "$scratch/$1" "$scratch/again" > /dev/null || fail "made again, the library for $1 has other bytes"
 }
 
 # programs NAME FOLDER COMPILER: library.c over the library of this folder, as NAME-loads and NAME-holds: with the one
