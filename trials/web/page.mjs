@@ -10,6 +10,7 @@ import { Chromium, Firefox, pause } from './browsers.mjs';
 const [page, folder, shots, program, ...names] = process.argv.slice(2);
 const LONG_TIMES = Number(process.env.TIMES ?? 100); // how often the recording stands in the long one
 const MOST_MEMORY = 16 << 20; // of the receiver's module
+const CODE = ['--line', 'nrz-m', '--g2', 'plain'];
 const FORMS = ['unsigned', 'bits', 'packed', 's16le', 's16be', 'f32le', 'f32be', 'frames', 'cadu'];
 const BRIDGE = new URL('../../packaging/web/live/bridge.py', import.meta.url).pathname;
 const place = (name) => path.join(folder, name);
@@ -89,6 +90,29 @@ async function chosen(browser) {
   await says(browser, /^All is read. 470 of 470 frames were restored, and 6 files came.$/);
   await browser.click('#pictures button'); // 3: Save as PNG
   check(pixelsOf((await browser.saved(/\.png$/)).bytes).equals(earth()), "the saved picture is the program's");
+}
+
+/** Images that lack packets are filled in, and captioned so; without the setting they don't appear. */
+async function lacking(browser) {
+  const recording = fs.readFileSync(place('lacking'));
+  for (const mend of [[], ['--mend', '64']]) {
+    const shelf = place(`lacking${mend.length}.shelf`);
+    spawnSync(program, [shelf, 'init', '1000000']);
+    const { stdout } = spawnSync(program, [shelf, 'receive', ...CODE, ...mend], { input: recording });
+    const lines = stdout.toString().split('\n').filter((line) => line.startsWith('shelved '));
+    const fillers = lines.map((line) => Number(/ mended ([0-9]+)$/.exec(line)?.[1] ?? 0));
+    await opened(browser);
+    if (!mend.length) await browser.evaluate("document.getElementById('mend').checked = false");
+    await given(browser, place('lacking'));
+    check((await countOf(browser, '#files tr')) === lines.length, `${lines.length} files, ${mend.join(' ')}`);
+    const sum = fillers.reduce((all, it) => all + it, 0);
+    const words = mend.length ? `\\D${sum} of \\d+ packets were lost, and are filled in` : '^((?!filled in).)*$';
+    await says(browser, new RegExp(words), 'pictures');
+  }
+  await browser.click('#pictures button');
+  const { bytes } = await browser.saved(/-mended-[0-9]+\.png$/);
+  const assembled = spawnSync(program, [place('lacking2.shelf'), 'assemble', '0', '6', '313', '1']).stdout;
+  check(pixelsOf(bytes).equals(assembled.subarray(assembled.length - 640 * 640)), "the picture is the program's");
 }
 
 /** The shelf is saved, the program reads it, and the page opens it again. */
@@ -250,8 +274,7 @@ function statusOf(where, path, headers = {}) {
 function programsLive(recording) {
   const shelf = place('live.shelf');
   spawnSync(program, [shelf, 'init', String(2 ** 40)]);
-  const words = ['receive', '--line', 'nrz-m', '--g2', 'plain', '--mend', '64'];
-  const done = spawnSync(program, [shelf, ...words], { input: recording });
+  const done = spawnSync(program, [shelf, 'receive', ...CODE, '--mend', '64'], { input: recording });
   return { shelf: fs.readFileSync(shelf), last: done.stdout.toString().trim().split('\n').at(-1) };
 }
 
@@ -366,7 +389,8 @@ for (const name of names) {
   const browser = await kinds[name].start();
   const isChromium = name === 'chromium';
   try {
-    const all = [commands, sample, chosen, shelf, zip, forms, hostile, strips, screens, keyboard, served, live, long];
+    const shown = [sample, chosen, lacking, shelf, zip, forms, hostile, strips, screens, keyboard];
+    const all = [commands, ...shown, served, live, long];
     const parts = all.filter((it) => !process.env.PARTS || process.env.PARTS.split(' ').includes(it.name));
     for (const part of parts) {
       fs.rmSync(browser.downloads, { recursive: true });
