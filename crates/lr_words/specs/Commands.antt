@@ -166,7 +166,7 @@ OnlyWritersMayWrite = (words : List Text) → writes_shelf words ≡ false
 abbrev pub IsWorkerCount : ℕ → Type 0
 IsWorkerCount workers = (1 ≤ workers) × (workers ≤ MOST_WORKERS)
 
--- so many fillers may an image have
+-- how many fillers an image may have at most
 abbrev pub MayHaveFillers : IntakeAction → Type 0
 MayHaveFillers Decode = Unit {0}
 MayHaveFillers (Receive mend) = mend ≤ MOST_FILLERS
