@@ -45,6 +45,12 @@ programs() {
     ways="$ways $name-loads $name-holds"
 }
 
+# shows_two FOLDER NM: the library of this folder that is loaded shows its two calls alone
+shows_two() {
+    shown=$("$2" -D --defined-only "$1/liblritstation.so.1" | awk '{ print $3 }' | xargs echo)
+    [ "$shown" = "lr_run lr_run_over" ] || fail "$1/liblritstation.so.1 shows $shown"
+}
+
 # What is missing for arm64.
 missing_for_arm64() {
     # shellcheck source=/dev/null
@@ -57,6 +63,7 @@ missing_for_arm64() {
 # Programs for arm64 that qemu starts.
 programs_for_arm64() {
     qemu=$(command -v qemu-aarch64-static || command -v qemu-aarch64)
+    shows_two "$LIBRARY_ARM64" aarch64-linux-gnu-nm
     programs arm64 "$LIBRARY_ARM64" aarch64-linux-gnu-gcc
     for name in arm64-loads arm64-holds; do
         mv "$scratch/$name" "$scratch/$name.program"
@@ -71,6 +78,7 @@ if [ -z "${LIBRARY-}" ]; then
     made amd64
     LIBRARY=$scratch/amd64
 fi
+shows_two "$LIBRARY" nm
 programs amd64 "$LIBRARY" cc
 missing=$(missing_for_arm64 | xargs echo)
 if [ -n "$missing" ]; then
