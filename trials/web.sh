@@ -57,6 +57,7 @@ export PYTHONDONTWRITEBYTECODE
 mkdir "$scratch/files" "$scratch/shots"
 SHOTS=${SHOTS:-$scratch/shots}
 quietly "$python" "$top/packaging/web/retarget_test.py"
+quietly "$python" "$top/packaging/web/bundle_test.py"
 (cd "$top/packaging/web" && node --test --test-reporter=tap tests/*.test.mjs) > "$scratch/said" 2>&1 ||
     fail "$(grep -A 12 '^not ok' "$scratch/said")"
 tests=$(sed -n 's/^# pass //p' "$scratch/said")
