@@ -45,10 +45,13 @@ programs() {
     ways="$ways $name-loads $name-holds"
 }
 
-# shows_two FOLDER NM: the library of this folder that is loaded shows its two calls alone
-shows_two() {
+# loads FOLDER NM: the library of this folder that is loaded shows its two calls alone, and needs nothing of the C
+# library that came after glibc 2.34
+loads() {
     shown=$("$2" -D --defined-only "$1/liblritstation.so.1" | awk '{ print $3 }' | xargs echo)
     [ "$shown" = "lr_run lr_run_over" ] || fail "$1/liblritstation.so.1 shows $shown"
+    newest=$({ echo GLIBC_2.34 && grep -ao 'GLIBC_2\.[0-9]*' "$1/liblritstation.so.1"; } | sort -V | tail -n 1)
+    [ "$newest" = GLIBC_2.34 ] || fail "$1/liblritstation.so.1 needs $newest"
 }
 
 # What is missing for arm64.
@@ -63,7 +66,7 @@ missing_for_arm64() {
 # Programs for arm64 that qemu starts.
 programs_for_arm64() {
     qemu=$(command -v qemu-aarch64-static || command -v qemu-aarch64)
-    shows_two "$LIBRARY_ARM64" aarch64-linux-gnu-nm
+    loads "$LIBRARY_ARM64" aarch64-linux-gnu-nm
     programs arm64 "$LIBRARY_ARM64" aarch64-linux-gnu-gcc
     for name in arm64-loads arm64-holds; do
         mv "$scratch/$name" "$scratch/$name.program"
@@ -78,7 +81,7 @@ if [ -z "${LIBRARY-}" ]; then
     made amd64
     LIBRARY=$scratch/amd64
 fi
-shows_two "$LIBRARY" nm
+loads "$LIBRARY" nm
 programs amd64 "$LIBRARY" cc
 missing=$(missing_for_arm64 | xargs echo)
 if [ -n "$missing" ]; then

@@ -292,13 +292,20 @@ async function live(browser) {
     check((await statusOf(where, '/symbols')) === 403, 'no WebSocket');
     check((await statusOf(where, '/live/../bundle.py')) === 404, 'what is not served');
     await browser.open(where);
-    await browser.until("!document.getElementById('listen').disabled");
-    await browser.click('#listen');
     const isListening = "/^Listening/.test(document.getElementById('state').textContent)";
-    await browser.until(isListening);
-    bridge.stdin.write(recording.subarray(0, recording.length / 2));
-    await browser.until("document.querySelectorAll('#files tr').length >= 2");
-    check(await browser.evaluate(isListening), 'files come while the source is silent');
+    const listened = async () => {
+      await browser.until("!document.getElementById('listen').disabled");
+      await browser.click('#listen');
+      await browser.until(isListening);
+      bridge.stdin.write(recording.subarray(0, recording.length / 2));
+      await browser.until("document.querySelectorAll('#files tr').length >= 2");
+      check(await browser.evaluate(isListening), 'files come while the source is silent');
+    };
+    await listened();
+    await browser.click('#stop');
+    await browser.until('document.body.dataset.settled');
+    await says(browser, /^The source has ended: symbols \d+ .* stop end$/);
+    await listened();
     bridge.stdin.end(recording.subarray(recording.length / 2));
     await browser.until('document.body.dataset.settled');
     const wanted = programsLive(recording);
