@@ -346,7 +346,8 @@ module _ {D O : Type 0} (disk : DiskOf D) (out : SinkOf O) (query : AdditionQuer
                 has = adding.on_way.either (ready.told t) (ready.keeps t);
                 outside = outside_here (disk.contents d2) t (adding.outside (ready.told t));
               });
-          stands = λ capacity items t durable. adding.on_items.either capacity items (ready.settled capacity items t durable);
+          stands = λ capacity items t durable.
+              adding.on_items.either capacity items (ready.settled capacity items t durable);
         },
       );
       refused = λ r same t. cc (same);

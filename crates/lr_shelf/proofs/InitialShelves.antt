@@ -152,7 +152,8 @@ module _ {D A : Type 0} (disk : DiskOf D)
         → StandsWithEither initial done placed c
     left_on (OfItems capacity items) s c image =
         either_items capacity items done placed c
-        ((adds.on_items.either capacity (with_files items done) (to_items disk done shelf d capacity items s)).1 c image)
+        ((adds.on_items.either capacity (with_files items done)
+        (to_items disk done shelf d capacity items s)).1 c image)
     left_on (OfWay way old) s c image =
         either_left disk leaves_contents counts_now way old done placed shelf shelf' d d' s.told s.kept.way
         s.on_disk.stands s.on_disk.durable result adds c image
