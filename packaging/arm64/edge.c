@@ -30,8 +30,9 @@ struct tried rattle_alloc(size_t size, size_t alignment)
     return told(malloc(size ? size : alignment));
 }
 
-/* Makes the room at `place`, which one of these two gave, one of `size` bytes. It may move. Its first bytes stay, as
- * many as both have (`kept` is how many it had). Where there is no memory the room is as it was. */
+/* Makes the room at `place`, which one of these two gave, one of `size` bytes. It may move. Its first `kept` bytes
+ * stay, and neither room is smaller than that. (realloc keeps all that both have.) Where there is no memory the room
+ * is as it was. */
 struct tried rattle_realloc(void *place, size_t kept, size_t size, size_t alignment)
 {
     (void)kept;
