@@ -90,13 +90,25 @@ fill_programs() {
     fi
 }
 
+# is_for_architecture FILE: whether this file of code (ELF) is for the architecture, by the number of its processor
+is_for_architecture() {
+    case $architecture in
+    amd64) number=62 ;;
+    *) number=183 ;;
+    esac
+    [ "$(od -A n -t u1 -j 18 -N 2 "$1" | tr -d ' ')" = "${number}0" ]
+}
+
 # The library for C and Python, where it was made for this architecture, in a folder of its own that its .pc file names.
 fill_library() {
-    library=${LIBRARY:-$top/out/library}
-    if [ "$architecture" = arm64 ] || [ ! -f "$library/liblritstation.so.1" ]; then
-        echo "${0##*/}: without the library: packaging/library.sh makes it, for amd64" >&2
+    library=$top/out/library
+    [ "$architecture" = amd64 ] || library=$library-$architecture
+    library=${LIBRARY:-$library}
+    if [ ! -f "$library/liblritstation.so.1" ]; then
+        echo "${0##*/}: without the library, which packaging/library.sh makes" >&2
         return
     fi
+    is_for_architecture "$library/liblritstation.so.1" || fail "$library is no library for $architecture"
     for name in liblritstation.a liblritstation.so.1 lritstation.h lritstation.pc; do
         put 644 "$library/$name" "lib/gomtasil/library/$name" || return 1
     done

@@ -5,7 +5,8 @@
 # Usage: packaging/debian.sh [FOLDER [ARCHITECTURE]], by default the folder out, and amd64; arm64 is the other one.
 # Needs dpkg-deb, python3 and git. $LRITSTATION may name the built program; the one for x86-64-v3 stands beside it, with
 # -v3 after its name, and the one for arm64, as packaging/arm64.sh makes it, with -arm64. $LIBRARY may name the folder
-# of the library that packaging/library.sh made, by default out/library; where there is none the package is without it.
+# of the library that packaging/library.sh made, by default out/library, or out/library-arm64; where there is none the
+# package is without it.
 top=$(cd -- "$(dirname -- "$0")/.." && pwd) || exit 1
 # shellcheck source-path=SCRIPTDIR source=common.sh
 . "$top/packaging/common.sh"

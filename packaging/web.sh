@@ -4,7 +4,8 @@
 # and proves lr_embed, and lr_live, which stands outside of crates/. The module that the kit's compiler makes of each is
 # given to the kit's clang once more, for WebAssembly with a memory of 64 bits and with vectors; web/retarget.py looks
 # that nothing in it is of another machine. The same commit gives the same bytes.
-# Usage: packaging/web.sh [FOLDER], by default the folder out/web. Needs rt, python3 and git. No network.
+# Usage: packaging/web.sh [FOLDER], by default the folder out/web. Needs rt, python3 and git. No network. $MODULES in
+# the environment may name a folder that gets the two modules too.
 # shellcheck disable=SC2034,SC2154 # (some are set in what is read, and some used there)
 top=$(cd -- "$(dirname -- "$0")/.." && pwd) || exit 1
 called=web.sh

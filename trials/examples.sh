@@ -583,8 +583,9 @@ verify_units() {
 try_form() {
     lacks shellcheck "the scripts were only run" && return
     ends "shellcheck" 0 shellcheck --external-sources "$top/lritstation" "$top/packaging/lritstation" \
-        "$top/packaging/debian.sh" "$top/packaging/archive.sh" "$top/packaging/arm64.sh" "$top/trials/arm64.sh" "$examples/bundle.sh" "$examples/cadu.sh" \
-        "$examples/roll.sh" "$examples/station.sh"
+        "$top/packaging/debian.sh" "$top/packaging/archive.sh" "$top/packaging/arm64.sh" "$top/packaging/library.sh" \
+        "$top/packaging/web.sh" "$top/trials/arm64.sh" "$top/trials/library.sh" "$top/trials/web.sh" \
+        "$examples/bundle.sh" "$examples/cadu.sh" "$examples/roll.sh" "$examples/station.sh"
 }
 
 parts="days weeks full_shelves full_disk bundle ways_in station station_of_frames signals wrapper processors units form"

@@ -34,7 +34,10 @@ elif [ ! -x "$LRITSTATION-v3" ]; then
     echo "trials/package.sh: there is no program for x86-64-v3, so nothing was tried"
     exit 77
 fi
-export LRITSTATION
+# (another clone has no library of its own)
+library=$top/out/library
+[ "$architecture" = amd64 ] || library=$library-$architecture
+export LRITSTATION LIBRARY="${LIBRARY:-$library}"
 unset SOURCE_DATE_EPOCH LRITSTATION_CPU
 scratch=$(mktemp -d) || exit 1
 trap 'rm -rf --one-file-system "$scratch"' EXIT
@@ -241,13 +244,33 @@ completed() {
         done' bash "$share/bash-completion/completions/lritstation"
 }
 
+# The library, where it was made: a program in C finds it by its file for pkg-config.
+try_library() {
+    folder=$installed/lib/gomtasil/library
+    compiler=cc
+    [ "$architecture" = amd64 ] || compiler=aarch64-linux-gnu-gcc
+    if [ ! -d "$folder" ]; then
+        echo "there is no library for $architecture: it wasn't tried (packaging/library.sh makes it)"
+        return
+    fi
+    is "the files of the library" "$(cd "$folder" && echo *)" \
+        "liblritstation.a liblritstation.so liblritstation.so.1 lritstation.h lritstation.pc"
+    lacks pkg-config "the library was only listed" && return
+    lacks $compiler "the library was only listed" && return
+    flags=$(PKG_CONFIG_PATH=$folder pkg-config --cflags --libs lritstation) || fail "pkg-config"
+    eval "$compiler '$top/trials/library.c' -o uses $flags" > said 2>&1 || fail "$compiler: $(cat said)"
+    : > new.shelf
+    is "what a program with the library says" "$(LD_LIBRARY_PATH=$folder ./uses bytes new.shelf - init 1000)" \
+        "shelf capacity 1000"
+}
+
 try_lintian() {
     lacks lintian "the package wasn't looked at" && return
     # (it would rather not be root)
     is "what lintian finds" "$(lintian --fail-on none first/*.deb 2> said | grep '^[EW]:')" ""
 }
 
-# A fresh system in the folder `root`, where it can be had.
+# make_root [TRIAL..]: a fresh system in the folder `root`, where it can be had, with what these need
 make_root() {
     if [ -d "${SYSTEMS-}/$architecture-$suite" ]; then
         cp -a "$SYSTEMS/$architecture-$suite" root
@@ -257,7 +280,7 @@ make_root() {
     mirror=$(cat /etc/apt/sources.list.d/debian.sources /etc/apt/sources.list 2> /dev/null |
         awk '$1 == "URIs:" || $1 == "deb" { print $2; exit }')
     mmdebstrap --quiet --variant=apt --architectures="$architecture" \
-        --include=netcat-openbsd,procps,python3-jinja2,python3-pil,systemd "$suite" root \
+        --include="netcat-openbsd,procps,python3-jinja2,python3-pil,systemd${1:+,git,nanomsg-utils}" "$suite" root \
         "${mirror:-http://deb.debian.org/debian}" > said 2>&1 && return
     tail -n 3 said
     echo "no Debian system can be had here (is there a network?): nothing was installed"
@@ -323,7 +346,7 @@ try_system() {
         echo "this needs root: nothing was installed"
         return
     fi
-    make_root || return
+    make_root "$@" || return
     cp first/*.deb root/gomtasil.deb
     files > before
     apt install /gomtasil.deb
@@ -342,6 +365,10 @@ try_system() {
     is "the version there" "$(chroot root lritstation --version)" "Gomtasil $version"
     is "the version of the tool there" "$(chroot root gomtasil --version)" "Gomtasil $version"
     rm -rf root/example root/tmp/said
+    line='from gomtasil import embedded; print(embedded.run(["init", "1000"])[:3])'
+    [ ! -d "$installed/lib/gomtasil/library" ] ||
+        is "what the library says in Python there" "$(chroot root env PYTHONPATH=/usr/share/gomtasil \
+            PYTHONDONTWRITEBYTECODE=1 python3 -c "$line" 2>&1)" "(0, b'shelf capacity 1000\\n', '')"
     try_units
     try_others "$@"
     apt purge gomtasil
@@ -366,7 +393,7 @@ if [ "$architecture" = arm64 ]; then
 fi
 try_bytes
 version=$(dpkg-deb --field first/*.deb Version)
-for part in choice installed pages lintian; do
+for part in choice installed pages library lintian; do
     try_$part
 done
 try_system "$@"

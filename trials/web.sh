@@ -1,9 +1,10 @@
 #!/bin/sh
 # The page: packaging/web.sh makes it twice, with the same bytes. Its tests and types; each command by both of its
 # modules in Node, over drawn recordings too, beside the built program; memory refused at each block. Then the page in
-# Chromium and in Firefox, from a disk and from a server: from README's sample to a saved picture, other forms, a shelf
-# that is saved and opened again, hostile files, a recording of 770 MB and its memory, a stop, and what it asks of the
-# network. What it looks like goes to $SHOTS, where that is a folder.
+# Chromium and in Firefox, from a disk and from a server: from README's sample to a saved picture, other forms, images
+# that lack packets, a shelf that is saved and opened again, hostile files, a recording of 770 MB and its memory, a
+# stop, and what it asks of the network. Then the example of a live source. What they look like goes to $SHOTS, where
+# that is a folder.
 # Usage: trials/web.sh. Needs rt, python3 and Node 20 or later (node); chromium, firefox-esr, tsc and Pillow for some
 # parts each, and some 2 GB of disk. $LRITSTATION may name the built program, and $PAGE a folder with receiver.html and
 # the modules (as MODULES=FOLDER packaging/web.sh FOLDER leaves it), which is then not made. TIMES in the environment
@@ -56,17 +57,22 @@ export PYTHONDONTWRITEBYTECODE
 mkdir "$scratch/files" "$scratch/shots"
 SHOTS=${SHOTS:-$scratch/shots}
 quietly "$python" "$top/packaging/web/retarget_test.py"
-(cd "$top/packaging/web" && node --test tests/) > "$scratch/said" 2>&1 || fail "$(grep -A 12 '^not ok' "$scratch/said")"
+quietly "$python" "$top/packaging/web/bundle_test.py"
+(cd "$top/packaging/web" && node --test --test-reporter=tap tests/*.test.mjs) > "$scratch/said" 2>&1 ||
+    fail "$(grep -A 12 '^not ok' "$scratch/said")"
 tests=$(sed -n 's/^# pass //p' "$scratch/said")
 if command -v tsc > /dev/null; then
     quietly tsc --noEmit --allowJs --checkJs --strict --skipLibCheck --target es2022 --module es2022 \
         --moduleResolution node --lib es2022,dom,webworker "$top/packaging/web/page/page.mjs" \
-        "$top/packaging/web/page/worker.mjs"
+        "$top/packaging/web/page/worker.mjs" "$top/packaging/web/live/live.mjs" \
+        "$top/packaging/web/live/live-worker.mjs"
 else
     skipped="$skipped types (tsc);"
 fi
 quietly "$python" "$top/trials/web/files.py" "$LRITSTATION" "$scratch/files"
+# (a newer Node has memory of 64 bits without the word)
 node="node --no-warnings --experimental-wasm-memory64"
+$node -e '' 2> /dev/null || node="node --no-warnings"
 # shellcheck disable=SC2086 # (they are several words)
 part $node "$top/trials/web/same.mjs" "$LRITSTATION" "$scratch/files" "$PAGE"
 browsers=

@@ -2,6 +2,7 @@
  * with the words `one`, an empty one, and one of 300 bytes. It says how many cases were tried, or the first that isn't
  * as wanted. */
 #include <errno.h>
+#include <malloc.h>
 #include <pthread.h>
 #include <stdint.h>
 #include <stdio.h>
@@ -73,16 +74,32 @@ static void try_changes(void)
     for (size_t alignment = 1; alignment <= 16; alignment *= 2) {
         struct tried got = rattle_alloc(sizes[0], alignment);
         for (size_t at = 1; at < sizeof sizes / sizeof *sizes; at++) {
-            size_t old = sizes[at - 1], new = sizes[at];
+            size_t old = sizes[at - 1], new = sizes[at], both = old < new ? old : new;
             memset(got.place, 0x5A, old);
-            got = rattle_realloc(got.place, old, new, alignment);
+            got = rattle_realloc(got.place, both, new, alignment);
             is("memory for a change", got.ok, 1);
             is("the rest by the alignment after it", (uintptr_t)got.place % alignment, 0);
-            is("what stands there after it", has(got.place, old < new ? old : new, 0x5A), 1);
+            is("what stands there after it", has(got.place, both, 0x5A), 1);
             memset(got.place, 0x33, new);
         }
         rattle_dealloc(got.place);
     }
+}
+
+static size_t used(void)
+{
+    struct mallinfo2 told = mallinfo2();
+    return told.uordblks + told.hblkhd;
+}
+
+/* What is freed is the C library's again. */
+static void try_freed(void)
+{
+    size_t size = 67108864, before = used();
+    struct tried got = rattle_alloc(size, 16);
+    is("whether it is in use", used() - before >= size, 1);
+    rattle_dealloc(got.place);
+    is("whether it is in use once it was freed", used() - before >= size, 0);
 }
 
 /* More than there can be: no memory, and the room stays. */
@@ -172,6 +189,7 @@ int main(int argc, char **argv)
     (void)argc;
     try_memory();
     try_changes();
+    try_freed();
     try_refusals();
     try_words(argv[0]);
     try_errors();

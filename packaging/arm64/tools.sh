@@ -1,5 +1,5 @@
-# What packaging/arm64.sh and trials/arm64.sh share. They read it, so it is no script of its own. $top is the top of the
-# repository, and $kit the kit's folder.
+# What packaging/arm64.sh, packaging/library.sh and trials/arm64.sh share. They read it, so it is no script of its own.
+# $top is the top of the repository, and $kit the kit's folder.
 # shellcheck shell=sh
 target=aarch64-unknown-linux-gnu
 cross=/usr/aarch64-linux-gnu
@@ -9,8 +9,8 @@ gcc_cross() {
     find /usr/lib/gcc-cross/aarch64-linux-gnu -mindepth 1 -maxdepth 1 -name '[0-9]*' 2> /dev/null | sort -V | tail -n 1
 }
 
-# missing_packages: the packages of Debian that are missing for a program for arm64, a line each. Debian 12 has gcc 12,
-# and Debian 13 gcc 14.
+# missing_packages: the packages of Debian that are missing for what is made for arm64, a line each. Debian 12 has
+# gcc 12, and Debian 13 gcc 14.
 missing_packages() {
     [ -f "$cross/lib/libc.so.6" ] && [ -f "$cross/include/stdlib.h" ] || echo libc6-dev-arm64-cross
     [ ! -f "$(gcc_cross)/libgcc.a" ] || return 0

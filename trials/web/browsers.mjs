@@ -9,6 +9,9 @@ import path from 'node:path';
 const PATIENCE = Number(process.env.PATIENCE ?? 1); // times as long is waited
 const STEP_MILLISECONDS = 50;
 const MARIONETTE_TRIES = 400 * PATIENCE;
+const KEYS = { Tab: '\uE004', Enter: '\uE007' }; // of Firefox
+const SCHEME = 'layout.css.prefers-color-scheme.content-override'; // of Firefox
+const [DARK, LIGHT] = [0, 1];
 
 /** @param {number} milliseconds */
 export const pause = (milliseconds) => new Promise((go) => setTimeout(go, milliseconds));
@@ -185,7 +188,8 @@ export class Firefox extends Browser {
     const line = (words) => `user_pref(${words.map((it) => JSON.stringify(it)).join(', ')});`;
     const lines = Object.entries(preferences).map(line);
     fs.writeFileSync(path.join(it.profile, 'user.js'), lines.join('\n'));
-    const words = ['--marionette', '--headless', '--no-remote', '--profile', it.profile];
+    const words = ['--marionette', '--headless', '--no-remote', '--remote-allow-system-access'];
+    words.push('--profile', it.profile);
     it.process = spawn('firefox-esr', words, { stdio: 'ignore', env: { ...process.env, HOME: it.profile } });
     await it.connect(port);
     const { capabilities } = await it.send('WebDriver:NewSession', { capabilities: { alwaysMatch: {} } });
@@ -268,12 +272,22 @@ export class Firefox extends Browser {
     await this.send('WebDriver:ElementSendKeys', { id: await this.find(selector), text: file });
   }
 
-  async screen({ width, height }) {
+  async key(key) {
+    const actions = ['keyDown', 'keyUp'].map((type) => ({ type, value: KEYS[key] }));
+    await this.send('WebDriver:PerformActions', { actions: [{ type: 'key', id: 'keyboard', actions }] });
+  }
+
+  /** Shows the page in a window of this size. (It has a least width, which is that of a wide phone.) */
+  async screen({ width, height, isDark = false }) {
     await this.send('WebDriver:SetWindowRect', { width, height });
+    await this.send('Marionette:SetContext', { value: 'chrome' });
+    const script = `Services.prefs.setIntPref('${SCHEME}', ${isDark ? DARK : LIGHT});`;
+    await this.send('WebDriver:ExecuteScript', { script, args: [] });
+    await this.send('Marionette:SetContext', { value: 'content' });
   }
 
   async picture(file) {
-    const { value } = await this.send('WebDriver:TakeScreenshot', { full: false });
+    const { value } = await this.send('WebDriver:TakeScreenshot', { full: true });
     fs.writeFileSync(file, Buffer.from(value, 'base64'));
   }
 

@@ -19,6 +19,8 @@ program, folder = sys.argv[1], Path(sys.argv[2])
 CODE = ["--line", "nrz-m", "--g2", "plain"]
 DRAWN = 40
 FRAME_BYTES, ROOM = 892, 1_000_000
+FRAME_SYMBOLS = 16384
+LACKING = (140, 193, 328, 363, 389, 417)  # frames of README's recording, in place of which there are drawn symbols
 MARKER = bytes.fromhex("1ACFFC1D")
 PARITY_BYTES = 1024 - 4 - FRAME_BYTES
 FORM_BYTES = 2_500_000  # of the recording that is turned into other forms
@@ -62,6 +64,11 @@ def recordings() -> None:
     run("my.shelf", "receive", *CODE, given=recording)
     run("my.shelf", "discard", "3")
     write("earth.pgm", run("sent.shelf", "assemble", "0", "6", "313", "1"))
+    lacking = bytearray(recording)
+    for frame in LACKING:
+        drawn = random.Random(frame).choices((40, 216), k=FRAME_SYMBOLS)
+        lacking[frame * FRAME_SYMBOLS : (frame + 1) * FRAME_SYMBOLS] = bytes(drawn)
+    write("lacking", bytes(lacking))
     damaged = bytearray((folder / "my.shelf").read_bytes())
     damaged[len(damaged) // 3] ^= 1
     write("damaged.shelf", bytes(damaged))

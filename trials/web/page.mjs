@@ -1,6 +1,6 @@
 // node page.mjs PAGE FOLDER SHOTS PROGRAM BROWSER..: the page in Chromium and in Firefox, from a disk and from a
 // server. FOLDER has the files of files.py. Pictures of the page go to SHOTS. PARTS in the environment may name some.
-import { spawnSync } from 'node:child_process';
+import { spawn, spawnSync } from 'node:child_process';
 import fs from 'node:fs';
 import http from 'node:http';
 import path from 'node:path';
@@ -10,7 +10,9 @@ import { Chromium, Firefox, pause } from './browsers.mjs';
 const [page, folder, shots, program, ...names] = process.argv.slice(2);
 const LONG_TIMES = Number(process.env.TIMES ?? 100); // how often the recording stands in the long one
 const MOST_MEMORY = 16 << 20; // of the receiver's module
+const CODE = ['--line', 'nrz-m', '--g2', 'plain'];
 const FORMS = ['unsigned', 'bits', 'packed', 's16le', 's16be', 'f32le', 'f32be', 'frames', 'cadu'];
+const BRIDGE = new URL('../../packaging/web/live/bridge.py', import.meta.url).pathname;
 const place = (name) => path.join(folder, name);
 const url = `file://${page}`;
 let checks = 0;
@@ -80,6 +82,37 @@ async function sample(browser) {
   await browser.click('#save-recording');
   const recording = (await browser.saved(/\.soft$/)).bytes;
   check(recording.equals(fs.readFileSync(place('recording'))), "the sample's recording is README's");
+}
+
+/** From a file that was chosen to a saved picture. */
+async function chosen(browser) {
+  await given(browser, place('recording')); // 1 and 2: Choose a file, and the file
+  await says(browser, /^All is read. 470 of 470 frames were restored, and 6 files came.$/);
+  await browser.click('#pictures button'); // 3: Save as PNG
+  check(pixelsOf((await browser.saved(/\.png$/)).bytes).equals(earth()), "the saved picture is the program's");
+}
+
+/** Images that lack packets are filled in, and captioned so; without the setting they don't appear. */
+async function lacking(browser) {
+  const recording = fs.readFileSync(place('lacking'));
+  for (const mend of [[], ['--mend', '64']]) {
+    const shelf = place(`lacking${mend.length}.shelf`);
+    spawnSync(program, [shelf, 'init', '1000000']);
+    const { stdout } = spawnSync(program, [shelf, 'receive', ...CODE, ...mend], { input: recording });
+    const lines = stdout.toString().split('\n').filter((line) => line.startsWith('shelved '));
+    const fillers = lines.map((line) => Number(/ mended ([0-9]+)$/.exec(line)?.[1] ?? 0));
+    await opened(browser);
+    if (!mend.length) await browser.evaluate("document.getElementById('mend').checked = false");
+    await given(browser, place('lacking'));
+    check((await countOf(browser, '#files tr')) === lines.length, `${lines.length} files, ${mend.join(' ')}`);
+    const sum = fillers.reduce((all, it) => all + it, 0);
+    const words = mend.length ? `\\D${sum} of \\d+ packets were lost, and are filled in` : '^((?!filled in).)*$';
+    await says(browser, new RegExp(words), 'pictures');
+  }
+  await browser.click('#pictures button');
+  const { bytes } = await browser.saved(/-mended-[0-9]+\.png$/);
+  const assembled = spawnSync(program, [place('lacking2.shelf'), 'assemble', '0', '6', '313', '1']).stdout;
+  check(pixelsOf(bytes).equals(assembled.subarray(assembled.length - 640 * 640)), "the picture is the program's");
 }
 
 /** The shelf is saved, the program reads it, and the page opens it again. */
@@ -221,6 +254,72 @@ async function served(browser) {
   }
 }
 
+/** The status of an answer to a request that isn't a browser's. */
+function statusOf(where, path, headers = {}) {
+  const { hostname, port } = new URL(where);
+  return new Promise((go, no) => {
+    const ask = http.get({ hostname, port, path, headers }, (answer) => {
+      answer.resume();
+      go(answer.statusCode);
+    });
+    ask.on('error', no);
+    ask.on('upgrade', (answer, socket) => {
+      socket.destroy();
+      go(answer.statusCode);
+    });
+  });
+}
+
+/** The shelf of the program, and the last line that it puts, where it receives the recording as the live page does. */
+function programsLive(recording) {
+  const shelf = place('live.shelf');
+  spawnSync(program, [shelf, 'init', String(2 ** 40)]);
+  const done = spawnSync(program, [shelf, 'receive', ...CODE, '--mend', '64'], { input: recording });
+  return { shelf: fs.readFileSync(shelf), last: done.stdout.toString().trim().split('\n').at(-1) };
+}
+
+/** The example of a live source: files come while it is silent in between, and the shelf is the program's. */
+async function live(browser) {
+  const recording = fs.readFileSync(place('recording'));
+  const bridge = spawn('python3', [BRIDGE, page, '--port', '0'], { stdio: ['pipe', 'pipe', 'inherit'] });
+  try {
+    const where = await new Promise((go, no) => {
+      bridge.stdout.once('data', (text) => go(text.toString().trim()));
+      bridge.once('exit', () => no(new Error('the bridge ended')));
+    });
+    const upgrade = { Upgrade: 'websocket', Connection: 'Upgrade', 'Sec-WebSocket-Key': 'AAAAAAAAAAAAAAAAAAAAAA==' };
+    check((await statusOf(where, '/symbols', { ...upgrade, Origin: 'http://example.com' })) === 403, 'another site');
+    check((await statusOf(where, '/symbols')) === 403, 'no WebSocket');
+    check((await statusOf(where, '/live/../bundle.py')) === 404, 'what is not served');
+    await browser.open(where);
+    const isListening = "/^Listening/.test(document.getElementById('state').textContent)";
+    const listened = async () => {
+      await browser.until("!document.getElementById('listen').disabled");
+      await browser.click('#listen');
+      await browser.until(isListening);
+      bridge.stdin.write(recording.subarray(0, recording.length / 2));
+      await browser.until("document.querySelectorAll('#files tr').length >= 2");
+      check(await browser.evaluate(isListening), 'files come while the source is silent');
+    };
+    await listened();
+    await browser.click('#stop');
+    await browser.until('document.body.dataset.settled');
+    await says(browser, /^The source has ended: symbols \d+ .* stop end$/);
+    await listened();
+    bridge.stdin.end(recording.subarray(recording.length / 2));
+    await browser.until('document.body.dataset.settled');
+    const wanted = programsLive(recording);
+    check((await state(browser)) === `The source has ended: ${wanted.last}`, await state(browser));
+    check((await countOf(browser, '#files tr')) === 6, 'all files came');
+    await says(browser, /640 × 640/, 'pictures');
+    await browser.picture(path.join(shots, `${browser.name.toLowerCase()}-live.png`));
+    await browser.click('#save-shelf');
+    check((await browser.saved(/\.shelf$/)).bytes.equals(wanted.shelf), "the shelf is the program's");
+  } finally {
+    bridge.kill();
+  }
+}
+
 /** The host of the modules, as one script, with a function that runs commands over files of an element. */
 function hostScript() {
   const inside = fs.readFileSync(new URL('inside.js', import.meta.url), 'utf8');
@@ -265,12 +364,14 @@ async function screens(browser) {
     await pause(300);
     await browser.picture(path.join(shots, `${browser.name.toLowerCase()}-${name}.png`));
     const root = 'document.documentElement';
+    const isDark = await browser.evaluate("matchMedia('(prefers-color-scheme: dark)').matches");
+    check(isDark === Boolean(kind.isDark), `${name}: dark is ${isDark}`);
     const overflow = await browser.evaluate(`${root}.scrollWidth - ${root}.clientWidth`);
     check(overflow <= 0, `${name}: the page is ${overflow} pixels too wide`);
   }
 }
 
-/** By the keyboard alone, and as a screen reader has it. */
+/** By the keyboard alone; and in Chromium, what a screen reader gets. */
 async function keyboard(browser) {
   await browser.key('Tab', 9); // past the link to the results
   await browser.key('Tab', 9);
@@ -278,6 +379,7 @@ async function keyboard(browser) {
   check(focused === 'sample', focused);
   await browser.key('Enter', 13);
   await browser.until('document.body.dataset.settled');
+  if (browser.name !== 'Chromium') return;
   const nodes = await browser.accessibility();
   const named = ['button', 'link', 'combobox', 'image', 'progressbar'];
   const nameless = nodes.filter((it) => !it.ignored && named.includes(it.role?.value) && !it.name?.value);
@@ -294,14 +396,14 @@ for (const name of names) {
   const browser = await kinds[name].start();
   const isChromium = name === 'chromium';
   try {
-    const shown = isChromium ? [screens, keyboard] : [];
-    const all = [commands, sample, shelf, zip, forms, hostile, strips, ...shown, served, long];
+    const shown = [sample, chosen, lacking, shelf, zip, forms, hostile, strips, screens, keyboard];
+    const all = [commands, ...shown, served, live, long];
     const parts = all.filter((it) => !process.env.PARTS || process.env.PARTS.split(' ').includes(it.name));
     for (const part of parts) {
       fs.rmSync(browser.downloads, { recursive: true });
       fs.mkdirSync(browser.downloads);
       try {
-        if (part !== served) await opened(browser);
+        if (part !== served && part !== live) await opened(browser);
         const said = await part(browser);
         if (said) told.push(`${browser.name}: ${part.name}: ${said}`);
       } catch (fault) {

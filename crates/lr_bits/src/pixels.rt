@@ -32,6 +32,14 @@ impl Pixels {
         }
     }
 
+    /// No pixels, and the memory for `count` of them.
+    pub fn with_capacity(alloc: Global, count: usize) -> Result<Self, NoMemory>
+        ensures { IfOk result (λ pixels. pixels ≡ []) }
+    {
+        let pixels = Vec::with_capacity(alloc, count)?;
+        Ok(Pixels { pixels })
+    }
+
     /// `count` pixels of 0.
     pub fn zeros(alloc: Global, count: usize) -> Result<Self, NoMemory>
         ensures { IfOk result (λ pixels. pixels ≡ replicate count 0) }

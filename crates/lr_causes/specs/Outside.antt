@@ -62,6 +62,13 @@ outlets_in w = outlets w.disk w.out
 abbrev pub outlet_counts : {D O : Type 0} → OutletsOf D O → Outlets D O → FaultCounts
 outlet_counts world w = counts 0 (world.disk.faults w.disk) (world.out.faults w.out)
 
+-- both tell of themselves what they told
+pub record TellOn {D O : Type 0} (world : OutletsOf D O) (w w' : Outlets D O) : Type 0 where
+  pub told_by_disk : world.disk.tells w.disk → world.disk.tells w'.disk
+  pub untold_by_disk : world.disk.tells w'.disk → world.disk.tells w.disk
+  pub told_by_out : world.out.tells w.out → world.out.tells w'.out
+  pub untold_by_out : world.out.tells w'.out → world.out.tells w.out
+
 -- ---- a source and `out`, for a command that has no disk
 
 -- what is said of sources and of sinks

@@ -1,6 +1,7 @@
 //! The line of a cause, which takes no memory.
 ghost use Rattle.std.specs.Prelude.{◌≡◌, ◌≤◌, ◌+◌, ◌++◌, ◌∷◌, [], length, decimal};
 ghost use Rattle.lr_causes.specs.Causes.{line_of};
+ghost use Rattle.lr_causes.specs.declared.line.TheConstants.{LINE_BYTES, PIECE_BYTES};
 
 use crate::cause::{Cause, Party, Refusal};
 use crate::fault::{BundleFlaw, CodingFault, ExportFault};
@@ -8,10 +9,13 @@ use crate::note::Note;
 use itoa::Buffer;
 use std::marker::Model;
 
-/// How many bytes a line has, at most.
-const LINE_BYTES: usize = 160;
+/// How many bytes a piece of a line has, at most.
+const PIECE_BYTES: usize = 40;
 
-/// A line of at most 160 bytes, or the front of one, in an array. It takes no memory.
+/// How many bytes a line has, at most.
+const LINE_BYTES: usize = 4 * PIECE_BYTES;
+
+/// A line, or the front of one, in an array. It takes no memory.
 #[derive(Drop)]
 pub struct Line {
     bytes: [u8; LINE_BYTES],
@@ -20,12 +24,13 @@ pub struct Line {
 
 impl Model for Line {
     ghost use Rattle.std.specs.Prelude.{List, ℕ, take, ◌≤◌};
+    ghost use Rattle.lr_causes.specs.declared.line.TheConstants.{LINE_BYTES};
 
     ghost Value = { List ℕ };
 
     ghost view = { λ l. take l.filled l.bytes };
 
-    ghost invariant = { λ l. l.filled ≤ 160 };
+    ghost invariant = { λ l. l.filled ≤ LINE_BYTES };
 }
 
 impl Line {
@@ -48,7 +53,7 @@ impl Line {
 
     /// Appends the piece.
     pub fn push(&mut self, piece: &[u8])
-        requires { length self.old + length piece.now ≤ 160 }
+        requires { length self.old + length piece.now ≤ LINE_BYTES }
         ensures { self.new ≡ self.old ++ piece.now }
     {
         let filled = self.filled;
@@ -59,9 +64,9 @@ impl Line {
 
     /// Appends a number in decimal digits.
     pub fn number(&mut self, n: u64)
-        requires { length self.old + 40 ≤ 160 }
+        requires { length self.old + PIECE_BYTES ≤ LINE_BYTES }
         ensures added { self.new ≡ self.old ++ decimal n }
-        ensures short { length self.new ≤ length self.old + 40 }
+        ensures short { length self.new ≤ length self.old + PIECE_BYTES }
     {
         let mut buffer = Buffer::new();
         self.push(buffer.format(n).as_bytes());
@@ -70,7 +75,7 @@ impl Line {
 
 /// A line of a text and a number.
 fn line_with(text: &[u8], number: u64) -> Line
-    requires { length text.now ≤ 40 }
+    requires { length text.now ≤ PIECE_BYTES }
     ensures { result ≡ text.now ++ decimal number ++ 10 ∷ [] }
 {
     let mut line = Line::new();
@@ -170,7 +175,7 @@ fn note_line(note: Note) -> Line
 }
 
 fn fixed_line(text: &[u8]) -> Line
-    requires { length text.now ≤ 40 }
+    requires { length text.now ≤ PIECE_BYTES }
     ensures { result ≡ text.now }
 {
     let mut line = Line::new();

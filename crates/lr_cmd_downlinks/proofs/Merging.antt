@@ -393,16 +393,18 @@ module _ {S D O : Type 0} (source : SourceOf S) (disk : DiskOf D) (out : SinkOf 
   pub whole_run : DownlinksRun (world_of source disk out) line cause (outside s d o) (outside s' d' o')
   whole_run = record {
     counted = done_with.counted;
-    told_by_disk =
-        told_since source disk out line s s' d d1 d' o o' shelf ready streams same_count
-        run.base run.order run.result
-        over.ends;
-    untold_by_disk =
-        untold_since source disk out line s s' d d1 d' o o' shelf ready streams same_count
-        run.base run.order run.result
-        over.ends;
-    told_by_out = done_with.told;
-    untold_by_out = done_with.untold;
+    tell = record {
+      told_by_disk =
+          told_since source disk out line s s' d d1 d' o o' shelf ready streams same_count
+          run.base run.order run.result
+          over.ends;
+      untold_by_disk =
+          untold_since source disk out line s s' d d1 d' o o' shelf ready streams same_count
+          run.base run.order run.result
+          over.ends;
+      told_by_out = done_with.told;
+      untold_by_out = done_with.untold;
+    };
     bytes = taken.bytes;
     read = taken.taken.read;
     ends = to_ends (world_of source disk out) line taken.bytes (outside s d o) (outside s' d' o')

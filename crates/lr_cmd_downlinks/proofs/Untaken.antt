@@ -63,10 +63,12 @@ module _ {S D O : Type 0} (source : SourceOf S) (disk : DiskOf D) (out : SinkOf 
         → DownlinksRun (world_of source disk out) line cause (outside s d o) (outside s' d1 o)
     stopped cause counted ends flaws whole = record {
       counted = counted;
-      told_by_disk = ready.told;
-      untold_by_disk = ready.untold;
-      told_by_out = λ t. t;
-      untold_by_out = λ t. t;
+      tell = record {
+        told_by_disk = ready.told;
+        untold_by_disk = ready.untold;
+        told_by_out = λ t. t;
+        untold_by_out = λ t. t;
+      };
       bytes = bytes;
       read = read;
       ends = ends;
@@ -132,10 +134,12 @@ module _ {S D O : Type 0} (source : SourceOf S) (disk : DiskOf D) (out : SinkOf 
       → DownlinksRun (world_of source disk out) line cause (outside s d o) (outside s d1 o)
   before_all cause counted ends places before whole = record {
     counted = counted;
-    told_by_disk = loads.calls.told;
-    untold_by_disk = loads.calls.untold;
-    told_by_out = λ t. t;
-    untold_by_out = λ t. t;
+    tell = record {
+      told_by_disk = loads.calls.told;
+      untold_by_disk = loads.calls.untold;
+      told_by_out = λ t. t;
+      untold_by_out = λ t. t;
+    };
     bytes = [];
     read = record { told = λ t. t; untold = λ t. t; moved = λ t. refl; few = omega arith; asked = inl (refl, refl) };
     ends = ends;

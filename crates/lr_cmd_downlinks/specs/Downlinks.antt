@@ -14,7 +14,7 @@ use Rattle.lr_shelf.specs.Shelf.{HasEitherWay, IsDurable}
 use Rattle.lr_forms.specs.declared.forms.Stop.TheVariants.{End, Fault}
 use Rattle.lr_causes.specs.Causes.{MayEndBefore}
 use Rattle.lr_causes.specs.Counts.{CountsTell}
-use Rattle.lr_causes.specs.Outside.{NoFault, Outside, World, counts_in}
+use Rattle.lr_causes.specs.Outside.{NoFault, Outside, TellOn, World, counts_in, outlets_in, world_outlets}
 use Rattle.lr_causes.specs.Puts.{Puts, PutFails}
 use Rattle.lr_causes.specs.declared.fault.BundleFlaw.{BundleFlaw}
 use Rattle.lr_causes.specs.declared.cause.Cause.{Cause}
@@ -214,10 +214,7 @@ module _ {S D O : Type 0} (world : World S D O) where
 pub record DownlinksRun {S D O : Type 0} (world : World S D O) (line : LineCode)
     (cause : Cause) (w w' : Outside S D O) : Type 0 where
   pub counted : CountsTell OutBesides cause (counts_in world w) (counts_in world w')
-  pub told_by_disk : world.disk.tells w.disk → world.disk.tells w'.disk
-  pub untold_by_disk : world.disk.tells w'.disk → world.disk.tells w.disk
-  pub told_by_out : world.out.tells w.out → world.out.tells w'.out
-  pub untold_by_out : world.out.tells w'.out → world.out.tells w.out
+  pub tell : TellOn (world_outlets world) (outlets_in w) (outlets_in w')
   -- these bytes were taken
   pub bytes : List ℕ
   pub read : IsRead world.source most_taken bytes w.source w'.source

@@ -32,13 +32,14 @@ use Rattle.lr_shelf.specs.InitialShelves.{InitialShelf, OfItems, OfWay, HoldsSti
 use Rattle.lr_shelf.specs.InitialShelves.{LeavesPrefixes, next_number}
 use Rattle.lr_cmd_receive.specs.Shelved.{MayStop}
 use Rattle.lr_cmd_receive.specs.Receive.{Receives, IsReceiveCause, IsWorkDone, ReceiveRun, intake}
-use Rattle.lr_cmd_receive.specs.Receive.{run_onto, receive_query}
+use Rattle.lr_cmd_receive.specs.Receive.{StopsEarly, run_onto, receive_query}
 use Rattle.lr_cmd_receive.specs.Reception.{FewWait, taken_bytes}
-use Rattle.lr_cmd_receive.specs.Shelving.{shelved_lines}
+use Rattle.lr_cmd_receive.specs.Shelving.{StopsInLines, shelved_lines}
 use Rattle.lr_cmd_receive.proofs.Acknowledging.{all_worked, lines_alone}
 use Rattle.lr_cmd_receive.proofs.Growing.{some, none_in}
 use Rattle.lr_cmd_receive.proofs.Headline.{receives}
 use Rattle.lr_cmd_receive.proofs.ReceiveEnding.{got_none}
+use Rattle.lr_cmd_receive.proofs.ShelvingOne.{no_lines}
 use Rattle.lr_cmd_receive.proofs.Taking.{no_bytes}
 use Rattle.lr_cmd_receive.proofs.Timely.{none_put_off}
 use Rattle.lr_reading.specs.Runs.{input_read}
@@ -73,6 +74,13 @@ module _ {D : Type 0} (disk : DiskOf D) (d : D) where
       let same : NotAShelf at ≡ Capacity needed most = cc (is) in cc (same)
   load_room NoMemory' refusal needed most is = cc (is)
   load_room _ refusal needed most is = absurd refusal
+
+  -- nor does `out` fail
+  pub load_silent : (e : ShelfError) → IsLoadRefusal disk d e → cause_of e ≡ Failed Output → ⊥
+  load_silent Disk' refusal is = let same : Disk ≡ Output = cc (is) in cc (same)
+  load_silent (NotAShelf' at) refusal is = cc (is)
+  load_silent NoMemory' refusal is = cc (is)
+  load_silent _ refusal is = absurd refusal
 
   -- and the work isn't done
   pub load_work : (e : ShelfError) → IsLoadRefusal disk d e → IsWorkDone (cause_of e) → ⊥
@@ -127,6 +135,17 @@ nothing_waits world initial mend input leeway w w' d still =
     (λ t. got_none world.out initial w.out t ∙ ap (λ (l : List NotedFile). world.out.contents w.out
     ++ shelved_lines (next_number initial) l) (sym (no_bytes mend input))))
 
+-- and no line was put
+pub stopped_at_once : {S D O : Type 0} (world : World S D O) (mend : ℕ) (input : Input) (limit : ℕ) (cause : Cause)
+    (w w' : Outside S D O) → w'.out ≡ w.out → (cause ≡ Failed Output → ⊥)
+    → StopsEarly world (intake mend (input_read input limit [])) cause w w'
+stopped_at_once world mend input limit cause w w' same other = record {
+  number = 0;
+  lines = inl (subst (λ o. StopsInLines world.out cause 0 (files_of_bytes mend input []) w.out o) (sym same)
+      (no_lines world.out cause 0 (files_of_bytes mend input []) w.out other));
+  numbered = λ way told is some. absurd (some (no_bytes mend input));
+}
+
 -- ---- memory for reading was refused, before anything was called
 
 module _ {S D O : Type 0} (world : World S D O)
@@ -165,37 +184,52 @@ module _ {S D O : Type 0} (world : World S D O)
     first = none_failed;
     bytes = [];
     read = record { told = λ t. t; untold = λ t. t; moved = λ t. refl; few = omega arith; asked = inl (refl, refl) };
-    told_by_disk = λ t. t;
-    untold_by_disk = λ t. t;
-    told_by_out = λ t. t;
-    untold_by_out = λ t. t;
-    onto_shelf = λ capacity items told durable.
-        nothing_made (OfItems capacity items) told
-        (begun_items capacity items (world.disk.contents w.disk) durable.stands) durable.durable;
-    onto_way = λ way told is only.
-        nothing_made (OfWay way (world.disk.contents w.disk)) told (begun_way way (world.disk.contents w.disk) is)
-        only;
-    keeps_up = λ initial told stands only.
-        none_put_off world mend input workers initial [] w w w.disk
-        (nothing_waits world initial mend input (leeway_for input workers) w w w.disk
-        (record { stands = stands; durable = only refl })) (inl (refl, refl));
-    refused = λ at is. cc (is);
-    broken = λ at told no. (
-      tt,
-      record { only_read = only_read_yet world.disk only_now w.disk none; source_stays = refl; out_stays = refl },
-    );
-    full = λ needed most is. cc (is);
-    nothing_fits = λ needed most is. cc (is);
-    room = λ done. absurd done;
-    only_read = λ files. only_read_yet world.disk only_now w.disk none;
-    silent = λ none early. refl;
-    unasked = λ none failed. refl;
-    ended = λ done. absurd done;
-    outside = λ way told is.
-        no_change way (placed_files (files_of_bytes mend input [])) (world.disk.contents w.disk)
-        (world.disk.contents w.disk) refl;
-    outside_any_moment = λ way told is only.
-        stays world.disk only_now w.disk _ told
-        (λ c image. no_change way (placed_files (files_of_bytes mend input [])) (world.disk.contents w.disk) c
-        (only c image));
+    tell = record {
+      told_by_disk = λ t. t;
+      untold_by_disk = λ t. t;
+      told_by_out = λ t. t;
+      untold_by_out = λ t. t;
+    };
+    onto = record {
+      shelf = λ capacity items told durable.
+          nothing_made (OfItems capacity items) told
+          (begun_items capacity items (world.disk.contents w.disk) durable.stands) durable.durable;
+      way = λ way told is only.
+          nothing_made (OfWay way (world.disk.contents w.disk)) told (begun_way way (world.disk.contents w.disk) is)
+          only;
+      keeps_up = λ initial told stands only.
+          none_put_off world mend input workers initial [] w w w.disk
+          (nothing_waits world initial mend input (leeway_for input workers) w w w.disk
+          (record { stands = stands; durable = only refl })) (inl (refl, refl));
+    };
+    lines = record {
+      ended = λ done. absurd done;
+      stopped = λ undone. stopped_at_once world mend input limit NoMemory w w refl (λ is. cc (is));
+    };
+    wants = record {
+      refused = λ at is. cc (is);
+      broken = λ at told no. (
+        tt,
+        record { only_read = only_read_yet world.disk only_now w.disk none; source_stays = refl; out_stays = refl },
+      );
+    };
+    capacity = record {
+      full = λ needed most is. cc (is);
+      nothing_fits = λ needed most is. cc (is);
+      room = λ done. absurd done;
+    };
+    alone = record {
+      only_read = λ files. only_read_yet world.disk only_now w.disk none;
+      silent = λ none early. refl;
+      unasked = λ none failed. refl;
+    };
+    writes = record {
+      outside = λ way told is.
+          no_change way (placed_files (files_of_bytes mend input [])) (world.disk.contents w.disk)
+          (world.disk.contents w.disk) refl;
+      outside_any_moment = λ way told is only.
+          stays world.disk only_now w.disk _ told
+          (λ c image. no_change way (placed_files (files_of_bytes mend input [])) (world.disk.contents w.disk) c
+          (only c image));
+    };
   }

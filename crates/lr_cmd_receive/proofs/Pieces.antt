@@ -7,6 +7,7 @@ use Rattle.std.specs.Prelude.{slice_get}
 use Rattle.std.proofs.lemmas.List.{drop_all, take_more, take-append-drop}
 use Rattle.lr_bits.specs.declared.outcome.Outcome.{Outcome}
 use Rattle.lr_bits.specs.declared.placed.Placed.{Placed}
+use Rattle.lr_io.specs.Pieces.{PutsPart}
 use Rattle.lr_shelf.specs.Prefixes.{end_with}
 use Rattle.lr_shelf_format.specs.Way.{Way}
 use Rattle.lr_shelf.specs.Kept.{kept_by}
@@ -20,7 +21,7 @@ use Rattle.lr_causes.specs.declared.cause.Cause.{Cause}
 use Rattle.lr_causes.specs.declared.cause.Cause.TheVariants.{NoMemory}
 use Rattle.lr_cmd_receive.specs.Noted.{NotedFile, noted_file, noted_of_outcomes, noted_where, noted_with}
 use Rattle.lr_cmd_receive.specs.Noted.{placed_files}
-use Rattle.lr_cmd_receive.specs.Shelving.{AreAcknowledged, Stops, shelved_lines, files_onto}
+use Rattle.lr_cmd_receive.specs.Shelving.{AreAcknowledged, Stops, StopsInLines, noted_line, shelved_lines, files_onto}
 use Rattle.lr_reading.specs.Arrivals.{HasWholeFrame}
 use Rattle.lr_cmd_receive.specs.Onto.{ChangesFor, ChangesImagesFor}
 use Rattle.lr_shelf.specs.Adding.{StaysOutside}
@@ -75,6 +76,19 @@ module _ {D O : Type 0} (world : OutletsOf D O) where
 
   module _ {xs : List NotedFile} {shelf shelf1 : Shelf} {w w1 : Outlets D O}
       (first : HasShelved world xs (shelf_in shelf w) (shelf_in shelf1 w1)) where
+    -- the lines of files after theirs
+    lines_on : (ys : List NotedFile) → world.out.tells w.out
+        → world.out.contents w1.out ++ shelved_lines (length (kept_by shelf1).way.entries) ys
+        ≡ world.out.contents w.out ++ shelved_lines (length (kept_by shelf).way.entries) (xs ++ ys)
+    lines_on ys told =
+        let number = length (kept_by shelf).way.entries in
+        ap (λ (l : List ℕ). l ++ shelved_lines (length (kept_by shelf1).way.entries) ys) (first.put told)
+        ∙ append_assoc (world.out.contents w.out) (shelved_lines number xs)
+        (shelved_lines (length (kept_by shelf1).way.entries) ys)
+        ∙ ap (λ (l : List ℕ). world.out.contents w.out ++ l)
+        (ap (λ (n : ℕ). shelved_lines number xs ++ shelved_lines n ys) first.count
+        ∙ sym (shelved_lines-append number xs ys))
+
     -- files after files
     pub shelved_on : {ys : List NotedFile} {shelf2 : Shelf} {w2 : Outlets D O}
         → HasShelved world ys (shelf_in shelf1 w1) (shelf_in shelf2 w2)
@@ -94,15 +108,7 @@ module _ {D O : Type 0} (world : OutletsOf D O) where
       grown = subst (λ (l : List Placed). Grows l (shelf_in shelf w) (shelf_in shelf2 w2)) (sym (placed-append xs ys))
           (grows_on first.grown next.grown);
       count = omega (arith, next.count, first.count, length-append xs ys);
-      put = λ t.
-          let number = length (kept_by shelf).way.entries in
-          next.put (first.told_by_out t)
-          ∙ ap (λ (l : List ℕ). l ++ shelved_lines (length (kept_by shelf1).way.entries) ys) (first.put t)
-          ∙ append_assoc (world.out.contents w.out) (shelved_lines number xs)
-          (shelved_lines (length (kept_by shelf1).way.entries) ys)
-          ∙ ap (λ (l : List ℕ). world.out.contents w.out ++ l)
-          (ap (λ (n : ℕ). shelved_lines number xs ++ shelved_lines n ys) first.count
-          ∙ sym (shelved_lines-append number xs ys));
+      put = λ t. next.put (first.told_by_out t) ∙ lines_on ys t;
       outside = λ t.
           subst (λ (l : List Placed). StaysOutside ((kept_by shelf).way.end - 1) (end_with (kept_by shelf).way.end l)
           (world.disk.contents w.disk) (world.disk.contents w2.disk)) (sym (placed-append xs ys))
@@ -119,6 +125,36 @@ module _ {D O : Type 0} (world : OutletsOf D O) where
                 two.1),
           );
     }
+
+    -- and a part of one more
+    lines_after : {cause : Cause} {ys : List NotedFile} {o2 : O}
+        → StopsInLines world.out cause (length (kept_by shelf1).way.entries) ys w1.out o2
+        → StopsInLines world.out cause (length (kept_by shelf).way.entries) (xs ++ ys) w.out o2
+    lines_after {cause} {ys} {o2} next =
+        let number = length (kept_by shelf).way.entries in
+        let number1 = length (kept_by shelf1).way.entries in
+        let done = next.done in
+        record {
+          done = xs ++ done;
+          rest = next.rest;
+          split = ap (λ (l : List NotedFile). xs ++ l) next.split ∙ sym (append_assoc xs done next.rest);
+          got = λ other t. next.got other (first.told_by_out t) ∙ lines_on done t;
+          cut = λ is.
+              let cut = next.cut is in
+              let there : number1 + length done ≡ number + length (xs ++ done) =
+              omega (arith, first.count, length-append xs done) in
+              record {
+                next = cut.next;
+                later = cut.later;
+                split = cut.split;
+                part = λ t.
+                    subst (λ (l : List ℕ). PutsPart (noted_line (number + length (xs ++ done)) cut.next) l
+                    (world.out.contents o2)) (lines_on done t)
+                    (subst (λ (k : ℕ). PutsPart (noted_line k cut.next)
+                    (world.out.contents w1.out ++ shelved_lines number1 done) (world.out.contents o2)) there
+                    (cut.part (first.told_by_out t)));
+              };
+        }
 
     -- shelving stopped after files
     pub stopped_after : {cause : Cause} {ys : List NotedFile} {w2 : Outlets D O}
@@ -143,6 +179,7 @@ module _ {D O : Type 0} (world : OutletsOf D O) where
           (stopped.keeps initial (done ++ xs) before (first.shelved initial done before so_far)));
       grown = subst (λ (l : List Placed). GrowsNoMore cause l (shelf_in shelf w) w2) (sym (placed-append xs ys))
           (stops_after first.grown stopped.grown);
+      lines = lines_after stopped.lines;
       outside = λ t.
           changes_so xs ys (kept_by shelf).way (world.disk.contents w.disk) (world.disk.contents w2.disk)
           (change_after (kept_by shelf).way (kept_by shelf1).way (placed_files xs) (world.disk.contents w.disk)
@@ -155,6 +192,23 @@ module _ {D O : Type 0} (world : OutletsOf D O) where
           w1.disk w2.disk first.grown.ends first.grown.same first.grown.room (first.outside t) one.1
           (stopped.moments (first.told_by_disk t) one.0));
     }
+
+  lines_before : {cause : Cause} {number : ℕ} {xs : List NotedFile} (ys : List NotedFile) {o o' : O}
+      → StopsInLines world.out cause number xs o o' → StopsInLines world.out cause number (xs ++ ys) o o'
+  lines_before ys lines = record {
+    done = lines.done;
+    rest = lines.rest ++ ys;
+    split = ap (λ (l : List NotedFile). l ++ ys) lines.split ∙ append_assoc lines.done lines.rest ys;
+    got = lines.got;
+    cut = λ is.
+        let cut = lines.cut is in
+        record {
+          next = cut.next;
+          later = cut.later ++ ys;
+          split = ap (λ (l : List NotedFile). l ++ ys) cut.split;
+          part = cut.part;
+        };
+  }
 
   -- it stopped before more of them
   pub stopped_before : {cause : Cause} {xs : List NotedFile} (ys : List NotedFile) {shelf : Shelf} {w w' : Outlets D O}
@@ -175,6 +229,7 @@ module _ {D O : Type 0} (world : OutletsOf D O) where
         (acknowledged_more world initial ys (stopped.keeps initial done before so_far));
     grown = subst (λ (l : List Placed). GrowsNoMore cause l (shelf_in shelf w) w') (sym (placed-append xs ys))
         (stops_before (placed_files ys) stopped.grown);
+    lines = lines_before ys stopped.lines;
     outside = λ t.
         changes_so xs ys (kept_by shelf).way (world.disk.contents w.disk) (world.disk.contents w'.disk)
         (change_among (kept_by shelf).way (placed_files xs) (placed_files ys) (world.disk.contents w.disk)

@@ -181,6 +181,7 @@ module _ {S D O : Type 0} (world : World S D O) (mend : ℕ) (input : Input) (li
               );
           over = over_some cause stopped.kind stopped.grown;
           ended = λ done. absurd (no_work cause stopped.kind done);
+          stopped = λ undone. inl stopped.lines;
           outside = stopped.outside;
           moments = stopped.moments;
         }
@@ -267,6 +268,22 @@ module _ {S D O : Type 0} (world : World S D O) (mend : ℕ) (input : Input) (li
               over_last all.shelved.grown o2 (Failed Output) (λ needed most is. cc (is))
               (λ is. let same : Output ≡ Disk = cc (is) in cc (same)) (λ early. absurd early);
           ended = λ done. absurd done;
+          stopped = λ undone. inr (
+            refl,
+            record {
+              stop = sums.totals.stop;
+              reason = all.ends.reason;
+              part = λ t.
+                  let cut = fails.part (all.shelved.told_by_out t) in
+                  record {
+                    part = cut.part;
+                    rest = cut.rest;
+                    split = sym line_is ∙ cut.split;
+                    shorter = omega (arith, cut.shorter, ap length line_is);
+                    put = cut.put ∙ ap (λ (l : List ℕ). l ++ cut.part) (all.shelved.put t);
+                  };
+            },
+          );
           outside = changes;
           moments = λ t only. (all.shelved.moments t only).1;
         }
@@ -304,6 +321,13 @@ module _ {S D O : Type 0} (world : World S D O) (mend : ℕ) (input : Input) (li
               );
           over = over_last all.shelved.grown o2 NoMemory (λ needed most is. cc (is)) (λ is. cc (is)) (λ early. same);
           ended = λ done. absurd done;
+          stopped = λ undone. inl (record {
+            done = files_of_bytes mend input all.bytes;
+            rest = [];
+            split = sym (append-nil (files_of_bytes mend input all.bytes));
+            got = λ other t. ap world.out.contents same ∙ all.shelved.put t;
+            cut = λ is. cc (is);
+          });
           outside = changes;
           moments = λ t only. (all.shelved.moments t only).1;
         }
@@ -371,6 +395,7 @@ module _ {S D O : Type 0} (world : World S D O) (mend : ℕ) (input : Input) (li
                   ∙ ap (λ (l : List ℕ). world.out.contents w.out ++ (lines ++ l)) line_is;
             },
           );
+          stopped = λ undone. absurd (undone (work_at sums.totals.stop));
           outside = changes;
           moments = λ t only. (all.shelved.moments t only).1;
         }

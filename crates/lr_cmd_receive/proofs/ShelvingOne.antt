@@ -10,6 +10,7 @@ use Rattle.lr_io.specs.declared.sink.Sink.{Ghosts as SinkOf}
 use Rattle.lr_disk.specs.declared.disk.Disk.{Ghosts as DiskOf}
 use Rattle.lr_disk.specs.Pending.{EachImageSince}
 use Rattle.lr_disk.proofs.Moments.{weaker}
+use Rattle.lr_shelf_format.specs.Items.{Item}
 use Rattle.lr_shelf.specs.Adding.{StaysOutside}
 use Rattle.lr_shelf.specs.Adds.{new_end}
 use Rattle.lr_shelf.specs.Append.{Appends, IsAppendRefusal, item_for}
@@ -21,6 +22,7 @@ use Rattle.lr_shelf.specs.declared.error.ShelfError.TheVariants.{Disk as Disk'}
 use Rattle.lr_shelf.specs.declared.error.ShelfError.TheVariants.{Capacity as Capacity'}
 use Rattle.lr_shelf.specs.declared.error.ShelfError.TheVariants.{NoMemory as NoMemory'}
 use Rattle.lr_shelf.specs.declared.error.ShelfError.TheVariants.{Failed as Failed'}
+use Rattle.lr_causes.specs.declared.cause.Cause.{Cause}
 use Rattle.lr_causes.specs.declared.cause.Cause.TheVariants.{Failed, NoMemory}
 use Rattle.lr_causes.specs.declared.cause.Party.TheVariants.{Disk, Output}
 use Rattle.lr_refusals.specs.Errors.{cause_of}
@@ -29,7 +31,7 @@ use Rattle.lr_shelf.specs.InitialShelves.{InitialShelf, IsSettledOn, next_number
 use Rattle.lr_shelf.specs.Prefixes.{HasRoom, end_with}
 use Rattle.lr_cmd_receive.specs.Onto.{ChangesImagesFor}
 use Rattle.lr_cmd_receive.specs.Noted.{NotedFile, noted_file, placed_files}
-use Rattle.lr_cmd_receive.specs.Shelving.{noted_line, shelved_lines}
+use Rattle.lr_cmd_receive.specs.Shelving.{GotText, StopsInLines, noted_line, shelved_lines}
 use Rattle.lr_cmd_receive.specs.Shelved.{ShelvesSoFar, HasShelved, StopsShelving, Grows, GrowsNoMore, shelf_in}
 use Rattle.lr_cmd_receive.proofs.Acknowledging.{either_acknowledged, lines_alone, still_acknowledged}
 use Rattle.lr_cmd_receive.proofs.Causing.{append_works, first_out, first_refused, first_stays}
@@ -96,7 +98,32 @@ module _ {D O : Type 0} (disk : DiskOf D) (placed : Placed) (shelf shelf' : Shel
       stops_at_one (Failed Disk) placed shelf (outlets d o) (outlets d' o) (λ needed most is. cc (is))
   not_appended _ refusal = absurd refusal
 
+-- nothing was put
+pub nothing_got : {O : Type 0} (out : SinkOf O) (number : ℕ) (o : O) → GotText out (shelved_lines number []) o o
+nothing_got out number o told =
+    sym (ap (λ (l : List ℕ). out.contents o ++ l) (shelved_lines-none number) ∙ append-nil (out.contents o))
+
+-- `out` wasn't called
+pub no_lines : {O : Type 0} (out : SinkOf O) (cause : Cause) (number : ℕ) (files : List NotedFile) (o : O)
+    → (cause ≡ Failed Output → ⊥) → StopsInLines out cause number files o o
+no_lines out cause number files o other = record {
+  done = [];
+  rest = files;
+  split = refl;
+  got = λ not_out. nothing_got out number o;
+  cut = λ is. absurd (other is);
+}
+
 -- ---- one file
+
+-- the append never stops for `out`
+not_output : (item : Item) (kept : KeptShelf) (e : ShelfError) → IsAppendRefusal item kept e
+    → cause_of e ≡ Failed Output → ⊥
+not_output item kept Disk' refusal is = let same : Disk ≡ Output = cc (is) in cc (same)
+not_output item kept (Capacity' needed most) refusal is = cc (is)
+not_output item kept NoMemory' refusal is = cc (is)
+not_output item kept Failed' refusal is = let same : Disk ≡ Output = cc (is) in cc (same)
+not_output item kept _ refusal is = absurd refusal
 
 -- what stays outside of its item
 outside_one : (placed : Placed) (shelf : Shelf) (old new : List ℕ)
@@ -134,6 +161,7 @@ no_line world files shelf w = record {
   keeps = λ initial done before so_far. still_acknowledged world initial done files before w so_far.settled.on_disk
       (lines_alone world initial done before w so_far.put.put);
   grown = stops_for_memory (placed_files files) shelf w;
+  lines = no_lines world.out NoMemory (length (kept_by shelf).way.entries) files w.out (λ is. cc (is));
   outside = λ t.
       no_change (kept_by shelf).way (placed_files files) (world.disk.contents w.disk) (world.disk.contents w.disk) refl;
   moments = λ t only. inl refl;
@@ -182,6 +210,8 @@ module _ {D O : Type 0} (disk : DiskOf D)
             (Err e) adds initial settled)
             (lines_alone (outlets_of disk out) initial done before (outlets d' o) so_far.put.put);
         grown = not_appended disk placed shelf shelf' d d' o (Err e) appends e appends.refused;
+        lines = no_lines out (cause_of e) (length (kept_by shelf).way.entries) (noted ∷ []) o
+            (not_output (item_for placed) (kept_by shelf) e appends.refused);
         outside = λ t. ⊎_elim
             (λ failed.
             let refusal : IsAppendRefusal (item_for placed) (kept_by shelf) Disk' =
@@ -310,6 +340,30 @@ module _ {D O : Type 0} (disk : DiskOf D)
                 );
           };
       grown = stops_at_one (Failed Output) placed shelf (outlets d o) (outlets d' o') (λ needed most is. cc (is));
+      lines =
+          let number = length (kept_by shelf).way.entries in
+          let there : n ≡ number + 0 = omega (arith, place) in
+          let line : text ≡ noted_line (number + 0) noted = is ∙ ap (λ (k : ℕ). noted_line k noted) there in
+          record {
+            done = [];
+            rest = noted ∷ [];
+            split = refl;
+            got = λ other. absurd (other refl);
+            cut = λ output. record {
+              next = noted;
+              later = [];
+              split = refl;
+              part = λ t.
+                  let cut = fails.part t in
+                  record {
+                    part = cut.part;
+                    rest = cut.rest;
+                    split = sym line ∙ cut.split;
+                    shorter = omega (arith, cut.shorter, ap (λ (l : List ℕ). length l) line);
+                    put = cut.put ∙ ap (λ (l : List ℕ). l ++ cut.part) (nothing_got out number o t);
+                  };
+            };
+          };
       outside = λ t.
           change_for (kept_by shelf).way (placed ∷ []) (disk.contents d) (disk.contents d')
           (appended disk placed shelf shelf' d d' o (Ok number) appends number refl o').room

@@ -260,7 +260,7 @@ module _ {S D O : Type 0} (source : SourceOf S) (disk : DiskOf D) (out : SinkOf 
             halted.split halted.one (timely initial start so_far) refl some.in_time;
       }
 
-  -- the same, where an image may have so many fillers
+  -- the same, where an image has at most `mend` fillers
   module _ (mend : ℕ) (most : mend_of before ≡ mend) where
     pub read_all : (leeway : Leeway) (sums : ReceiveCounts)
         → TakesAll (course_of source (ShelverTook (outlets_of disk out)) input limit leeway) sums.totals

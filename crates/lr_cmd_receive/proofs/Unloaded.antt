@@ -35,7 +35,7 @@ use Rattle.lr_shelf.specs.InitialShelves.{InitialShelf, OfItems, OfWay, HoldsSti
 use Rattle.lr_shelf.specs.InitialShelves.{LeavesPrefixes}
 use Rattle.lr_cmd_receive.specs.Onto.{ChangesFor, ChangesImagesFor}
 use Rattle.lr_cmd_receive.specs.Shelved.{ShelvesSoFar, shelf_in}
-use Rattle.lr_cmd_receive.specs.Receive.{Ends, Receives, IsWorkDone, EndsWork, IsUntouched}
+use Rattle.lr_cmd_receive.specs.Receive.{Ends, Receives, IsWorkDone, EndsWork, IsUntouched, StopsEarly}
 use Rattle.lr_cmd_receive.specs.Receive.{PutsNoFileOff, ReceiveRun, intake, run_onto, taken_by, receive_query}
 use Rattle.lr_cmd_receive.specs.Reception.{EndsRun, reception}
 use Rattle.lr_cmd_receive.proofs.Headline.{receives}
@@ -47,7 +47,7 @@ use Rattle.lr_shelf.proofs.InitialPrefixes.{front_none, begun_items, begun_way, 
 use Rattle.lr_shelf.proofs.InitialPrefixes.{still_left, settled_on_items}
 use Rattle.lr_cmd_receive.proofs.Loading.{ended_before, may_refuse, load_cause, load_room, load_work, run_cause}
 use Rattle.lr_reading.specs.Runs.{input_read}
-use Rattle.lr_cmd_receive.proofs.Loading.{run_kind, full_reads, nothing_waits}
+use Rattle.lr_cmd_receive.proofs.Loading.{run_kind, full_reads, load_silent, nothing_waits, stopped_at_once}
 
 -- ---- the shelf was to be loaded
 
@@ -135,39 +135,56 @@ module _ {S D O : Type 0} (world : World S D O) (mend : ℕ) (input : Input) (wo
     first = first_of e is refusal;
     bytes = [];
     read = record { told = λ t. t; untold = λ t. t; moved = λ t. refl; few = omega arith; asked = inl (refl, refl) };
-    told_by_disk = loads.calls.told;
-    untold_by_disk = loads.calls.untold;
-    told_by_out = λ t. t;
-    untold_by_out = λ t. t;
-    onto_shelf = λ capacity items told durable.
-        nothing (OfItems capacity items) told
-        (begun_items capacity items (world.disk.contents w.disk) durable.stands)
-        durable.durable e is refusal
-        (λ at no. (has_one_way (world.disk.contents w.disk)).none _ at
-        (has_way (world.disk.contents w.disk) capacity items durable.stands)
-        no);
-    onto_way = λ way told way_is only.
-        nothing (OfWay way (world.disk.contents w.disk)) told (begun_way way (world.disk.contents w.disk) way_is)
-        only e is refusal
-        (λ at no. (has_one_way (world.disk.contents w.disk)).none way at way_is no);
-    keeps_up = λ initial told stands only.
-        none_put_off world mend input workers initial [] w read_only w.disk
-        (nothing_waits world initial mend input (leeway_for input workers) w w d1
-        (still initial told stands (only refl))) (inl (refl, refl));
-    refused = λ at named. (refused e at refusal named, only_read);
-    broken = λ at told no. (ended_before e at (may_refuse at result e is (loads.broken at told no)), only_read);
-    full = λ needed most named. absurd (load_room world.disk w.disk e refusal needed most named);
-    nothing_fits = λ needed most named. absurd (load_room world.disk w.disk e refusal needed most named);
-    room = λ done. absurd (load_work world.disk w.disk e refusal done);
-    only_read = λ none. loads.only_read;
-    silent = λ none early. refl;
-    unasked = λ none failed. refl;
-    ended = λ done. absurd (load_work world.disk w.disk e refusal done);
-    outside = λ way told is.
-        no_change way (placed_files (files_of_bytes mend input [])) (world.disk.contents w.disk)
-        (world.disk.contents d1)
-        (loads.only_read.unwritten told).contents;
-    outside_any_moment = λ way told is only. loading_images way (placed_files (files_of_bytes mend input [])) told only;
+    tell = record {
+      told_by_disk = loads.calls.told;
+      untold_by_disk = loads.calls.untold;
+      told_by_out = λ t. t;
+      untold_by_out = λ t. t;
+    };
+    onto = record {
+      shelf = λ capacity items told durable.
+          nothing (OfItems capacity items) told
+          (begun_items capacity items (world.disk.contents w.disk) durable.stands)
+          durable.durable e is refusal
+          (λ at no. (has_one_way (world.disk.contents w.disk)).none _ at
+          (has_way (world.disk.contents w.disk) capacity items durable.stands)
+          no);
+      way = λ way told way_is only.
+          nothing (OfWay way (world.disk.contents w.disk)) told (begun_way way (world.disk.contents w.disk) way_is)
+          only e is refusal
+          (λ at no. (has_one_way (world.disk.contents w.disk)).none way at way_is no);
+      keeps_up = λ initial told stands only.
+          none_put_off world mend input workers initial [] w read_only w.disk
+          (nothing_waits world initial mend input (leeway_for input workers) w w d1
+          (still initial told stands (only refl))) (inl (refl, refl));
+    };
+    lines = record {
+      ended = λ done. absurd (load_work world.disk w.disk e refusal done);
+      stopped = λ undone. stopped_at_once world mend input limit (cause_of e) w read_only refl
+          (load_silent world.disk w.disk e refusal);
+    };
+    wants = record {
+      refused = λ at named. (refused e at refusal named, only_read);
+      broken = λ at told no. (ended_before e at (may_refuse at result e is (loads.broken at told no)), only_read);
+    };
+    capacity = record {
+      full = λ needed most named. absurd (load_room world.disk w.disk e refusal needed most named);
+      nothing_fits = λ needed most named. absurd (load_room world.disk w.disk e refusal needed most named);
+      room = λ done. absurd (load_work world.disk w.disk e refusal done);
+    };
+    alone = record {
+      only_read = λ none. loads.only_read;
+      silent = λ none early. refl;
+      unasked = λ none failed. refl;
+    };
+    writes = record {
+      outside = λ way told is.
+          no_change way (placed_files (files_of_bytes mend input [])) (world.disk.contents w.disk)
+          (world.disk.contents d1)
+          (loads.only_read.unwritten told).contents;
+      outside_any_moment = λ way told is only.
+          loading_images way (placed_files (files_of_bytes mend input [])) told only;
+    };
   }
 
   -- it was
@@ -282,6 +299,22 @@ module _ {S D O : Type 0} (world : World S D O) (mend : ℕ) (input : Input) (wo
           let all = run.ends initial (outlets d1 w.out) (begun_after initial told stands) in
           none_put_off world mend input workers initial run.bytes w w' d1 all.2 all.3
 
+      numbered_run : (way : Way) → world.disk.tells w.disk → IsWay (world.disk.contents w.disk) way
+          → length (kept_by shelf).way.entries ≡ length way.entries
+      numbered_run way told has =
+          ap (λ (x : Way). length x.entries)
+          ((has_one_way (world.disk.contents w.disk)).way (kept_by shelf).way way (is_way told) has)
+
+      stopped_run : (IsWorkDone cause → ⊥)
+          → StopsEarly world (intake mend (input_read input limit run.bytes)) cause w w'
+      stopped_run undone = record {
+        number = length (kept_by shelf).way.entries;
+        lines = ⊎_elim (λ lines. inl lines)
+            (λ last. inr (last.0, record { stop = last.1.stop; reason = last.1.reason; part = last.1.part }))
+            (run.stopped undone);
+        numbered = λ way told has some. numbered_run way told has;
+      }
+
       ended_run : IsWorkDone cause → EndsWork world (intake mend (input_read input limit run.bytes)) cause w w'
       ended_run done =
           let there = run.ended done in
@@ -290,9 +323,7 @@ module _ {S D O : Type 0} (world : World S D O) (mend : ℕ) (input : Input) (wo
             is = there.1;
             number = length (kept_by shelf).way.entries;
             work = record { reason = there.2.reason; got = there.2.got };
-            numbered = λ way told has.
-                ap (λ (x : Way). length x.entries)
-                ((has_one_way (world.disk.contents w.disk)).way (kept_by shelf).way way (is_way told) has);
+            numbered = numbered_run;
             stand = λ initial told stands.
                 still_after initial cause (outside w.source d1 w.out) done
                 (run.ends initial (outlets d1 w.out) (begun_after initial told stands)).1;
@@ -334,29 +365,38 @@ module _ {S D O : Type 0} (world : World S D O) (mend : ℕ) (input : Input) (wo
         first = first_run;
         bytes = run.bytes;
         read = run.read;
-        told_by_disk = λ t. run.told_by_disk (loads.calls.told t);
-        untold_by_disk = λ t. loads.calls.untold (run.untold_by_disk t);
-        told_by_out = run.told_by_out;
-        untold_by_out = run.untold_by_out;
-        onto_shelf = onto_shelf;
-        onto_way = onto_way;
-        keeps_up = λ initial told stands only. keeps_up_run initial told stands;
-        refused = λ at named. absurd (run_kind cause run.kind at named);
-        broken = λ at told no.
-            absurd (subst (λ (r : Result Shelf ShelfError). MatchResult r (λ _. ⊥) (MayRefuseAt at)) is
-            (loads.broken at told no));
-        full = λ needed most named told.
-            record { way = (kept_by shelf).way; is_way = is_way told; full = run.over.full needed most named };
-        nothing_fits = λ needed most named tells empty.
-            let full = run.over.full needed most named in
-            full_reads world.source mend input limit run.bytes w.source w'.source run.read tells
-            empty full.done full.next full.rest full.split;
-        room = λ done told. record { way = (kept_by shelf).way; is_way = is_way told; room = run.over.room done };
-        only_read = λ none.
-            subst (λ (x : D). IsOnlyRead world.disk w.disk x) (sym (run.over.same_disk none)) loads.only_read;
-        silent = run.over.silent;
-        unasked = λ none failed. absurd (run.over.kind none failed);
-        ended = ended_run;
-        outside = changes_run;
-        outside_any_moment = images_run;
+        tell = record {
+          told_by_disk = λ t. run.told_by_disk (loads.calls.told t);
+          untold_by_disk = λ t. loads.calls.untold (run.untold_by_disk t);
+          told_by_out = run.told_by_out;
+          untold_by_out = run.untold_by_out;
+        };
+        onto = record {
+          shelf = onto_shelf;
+          way = onto_way;
+          keeps_up = λ initial told stands only. keeps_up_run initial told stands;
+        };
+        lines = record { ended = ended_run; stopped = stopped_run };
+        wants = record {
+          refused = λ at named. absurd (run_kind cause run.kind at named);
+          broken = λ at told no.
+              absurd (subst (λ (r : Result Shelf ShelfError). MatchResult r (λ _. ⊥) (MayRefuseAt at)) is
+              (loads.broken at told no));
+        };
+        capacity = record {
+          full = λ needed most named told.
+              record { way = (kept_by shelf).way; is_way = is_way told; full = run.over.full needed most named };
+          nothing_fits = λ needed most named tells empty.
+              let full = run.over.full needed most named in
+              full_reads world.source mend input limit run.bytes w.source w'.source run.read tells
+              empty full.done full.next full.rest full.split;
+          room = λ done told. record { way = (kept_by shelf).way; is_way = is_way told; room = run.over.room done };
+        };
+        alone = record {
+          only_read = λ none.
+              subst (λ (x : D). IsOnlyRead world.disk w.disk x) (sym (run.over.same_disk none)) loads.only_read;
+          silent = run.over.silent;
+          unasked = λ none failed. absurd (run.over.kind none failed);
+        };
+        writes = record { outside = changes_run; outside_any_moment = images_run };
       }

@@ -23,7 +23,7 @@ placed_files files = map placed_of files
 abbrev pub noted_where : ℕ → MarkedPlaced → NotedFile
 noted_where mend marked = noted_file marked.placed (if mend == 0 then None else Some marked.fillers)
 
--- the files of these outcomes, where an image may have so many fillers
+-- the files of these outcomes, where an image has at most `mend` fillers
 unfoldable pub noted_of_outcomes : ℕ → List Outcome → List NotedFile
 noted_of_outcomes mend outcomes = map (noted_where mend) (marked_of_outcomes mend outcomes)
 

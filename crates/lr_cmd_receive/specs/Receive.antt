@@ -19,7 +19,7 @@ use Rattle.lr_causes.specs.declared.cause.Refusal.TheVariants.{NotAShelf, Capaci
 use Rattle.lr_forms.specs.declared.forms.Input.{Input}
 use Rattle.lr_causes.specs.Causes.{IsEarlier, MayEndBefore, cause_at}
 use Rattle.lr_causes.specs.Outside.{NoFault, Outlets, OutletsOf, Outside, World, counts_in}
-use Rattle.lr_causes.specs.Outside.{outlets_in, world_outlets}
+use Rattle.lr_causes.specs.Outside.{TellOn, outlets_in, world_outlets}
 use Rattle.lr_causes.specs.Counts.{CountsTell}
 use Rattle.lr_cmd_receive.specs.First.{SourceBesides}
 use Rattle.lr_reading.specs.Inputs.{outcomes_of_bytes, bytes_left_over}
@@ -33,7 +33,7 @@ use Rattle.lr_shelf.specs.InitialShelves.{InitialShelf, OfItems, OfWay, AllHaveR
 use Rattle.lr_shelf.specs.InitialShelves.{HoldsStill, LeavesPrefixes, StandsWith, next_number}
 use Rattle.lr_cmd_receive.specs.Shelving.{FilesOnto, files_onto, shortage_of, shelved_lines}
 use Rattle.lr_cmd_receive.specs.Shelving.{AreAcknowledged, GotText, GotPart, DiskStops, MemoryStops}
-use Rattle.lr_cmd_receive.specs.Shelving.{FullStops, LineStops}
+use Rattle.lr_cmd_receive.specs.Shelving.{FullStops, LineStops, StopsInLines}
 
 -- how many bytes were taken, how many outcomes there are, of each kind, how many good packets and files, and how many
 -- bytes are left
@@ -49,7 +49,7 @@ counts_line symbols frames numbers left stop =
       left = left;
     })) stop
 
--- the last line of outcomes, where an image may have so many fillers
+-- the last line of outcomes, where an image has at most `mend` fillers
 unfoldable pub receive_count : ℕ → List Outcome → ℕ → ℕ → Stop → List ℕ
 receive_count mend outcomes symbols left stop =
     counts_line symbols (length outcomes) (mended_numbers_of mend outcomes) left stop
@@ -226,6 +226,36 @@ pub record EndsWork {S D O : Type 0} (world : World S D O) (of : Intake) (cause 
   pub stand : (initial : InitialShelf) → world.disk.tells w.disk → StandsWith initial [] (world.disk.contents w.disk)
       → HoldsStill initial (placed_files (files_taken of)) world.disk w'.disk
 
+-- what a run took, and the number of the first file that comes of it
+pub record RunFrom : Type 0 where
+  pub of : Intake
+  pub number : ℕ
+
+abbrev pub run_from : Intake → ℕ → RunFrom
+run_from of number = record { of = of; number = number }
+
+-- `out` failed in the last line: it got those of all files, and a part of the last one
+pub record CutsLast {S D O : Type 0} (world : World S D O) (run : RunFrom) (w w' : Outside S D O) : Type 0 where
+  pub stop : Stop
+  pub reason : EndsFor world.source stop (within run.of.taken.limit run.of.taken.bytes) w.source w'.source
+  pub part : GotPart world.out (shelved_lines run.number (files_taken run.of)) (last_taken run.of stop) w.out w'.out
+
+-- the work isn't done: `out` got the lines of the first files, and where it failed a part of the next line or of the
+-- last one
+abbrev pub PutsLines : {S D O : Type 0} → World S D O → RunFrom → Cause → Outside S D O → Outside S D O → Type 0
+PutsLines world run cause w w' =
+    StopsInLines world.out cause run.number (files_taken run.of) w.out w'.out
+    ⊎ ((cause ≡ Failed Output) × CutsLast world run w w')
+
+-- The work isn't done, over every disk, whatever it tells and whatever is pending on it.
+pub record StopsEarly {S D O : Type 0} (world : World S D O) (of : Intake) (cause : Cause) (w w' : Outside S D O)
+    : Type 0 where
+  pub number : ℕ
+  pub lines : PutsLines world (run_from of number) cause w w'
+  -- where the disk has a way, the first file, if there is one, comes after its entries
+  pub numbered : (way : Way) → world.disk.tells w.disk → IsWay (world.disk.contents w.disk) way
+      → (files_taken of ≡ [] → ⊥) → number ≡ length way.entries
+
 -- the disk was only read, whatever it tells, and the source and `out` are as they were
 pub record IsUntouched {S D O : Type 0} (world : World S D O) (w w' : Outside S D O) : Type 0 where
   pub only_read : IsOnlyRead world.disk w.disk w'.disk
@@ -252,57 +282,75 @@ intake_of asked bytes = intake asked.mend (input_read asked.input asked.limit by
 abbrev pub asked_files : ReceiveQuery → List ℕ → List Placed
 asked_files asked bytes = placed_files (files_of_bytes asked.mend asked.input bytes)
 
+module _ {S D O : Type 0} (world : World S D O) where
+  module _ (asked : ReceiveQuery) (bytes : List ℕ) (cause : Cause) where
+    -- what comes of a shelf that stood there, where these bytes were taken
+    pub record ComesOnto (w w' : Outside S D O) : Type 0 where
+      -- over a disk that tells its contents, stands for a shelf, and has nothing pending
+      pub shelf : (capacity : ℕ) (items : List Item) → world.disk.tells w.disk
+          → IsDurable world.disk capacity items w.disk
+          → Receives world (run_onto (OfItems capacity items) (intake_of asked bytes)) cause w w'
+      -- over one that has a way, whatever its records hold, and has nothing pending
+      pub way : (way : Way) → world.disk.tells w.disk → IsWay (world.disk.contents w.disk) way
+          → NothingPending world.disk w.disk
+          → Receives world (run_onto (OfWay way (world.disk.contents w.disk)) (intake_of asked bytes))
+          cause w w'
+      -- no file is put off, over either; and also with something pending at the start, where a byte was taken
+      pub keeps_up : (initial : InitialShelf) → world.disk.tells w.disk
+          → StandsWith initial [] (world.disk.contents w.disk) → (bytes ≡ [] → NothingPending world.disk w.disk)
+          → PutsNoFileOff world (taken_by asked.mend asked.input asked.workers bytes) initial w w'
+
+    -- over every disk that tells its contents the capacity is refused only where the next file's end passes it, which
+    -- an empty source never brings about, and the work is done only where there was room for all files
+    pub record MindsCapacity (w w' : Outside S D O) : Type 0 where
+      pub full : (needed most : ℕ) → cause ≡ Refused (Capacity needed most) → world.disk.tells w.disk
+          → IsFull world.disk needed most (asked_files asked bytes) w.disk
+      pub nothing_fits : (needed most : ℕ) → cause ≡ Refused (Capacity needed most)
+          → world.source.tells w.source → world.source.left w.source ≡ [] → ⊥
+      pub room : IsWorkDone cause → world.disk.tells w.disk
+          → HadRoom world.disk (asked_files asked bytes) w.disk
+
+    -- where no file was read, the disk was only read; where it failed or memory was refused, `out` is as it was, and
+    -- where it failed, the source too
+    pub record LeavesAlone (w w' : Outside S D O) : Type 0 where
+      pub only_read : asked_files asked bytes ≡ [] → IsOnlyRead world.disk w.disk w'.disk
+      pub silent : asked_files asked bytes ≡ [] → IsEarlier cause → w'.out ≡ w.out
+      pub unasked : asked_files asked bytes ≡ [] → cause ≡ Failed Disk → w'.source ≡ w.source
+
+    -- what `out` got, also with something pending at the start, and over a disk that tells nothing
+    pub record GetsLines (w w' : Outside S D O) : Type 0 where
+      pub ended : IsWorkDone cause → EndsWork world (intake_of asked bytes) cause w w'
+      pub stopped : (IsWorkDone cause → ⊥) → StopsEarly world (intake_of asked bytes) cause w w'
+
+  -- a disk on which no shelf stands is refused, exactly then
+  pub record WantsShelf (cause : Cause) (w w' : Outside S D O) : Type 0 where
+    pub refused : (at : ℕ) → cause ≡ Refused (NotAShelf at)
+        → (world.disk.tells w.disk → IsNoShelfAt (world.disk.contents w.disk) at)
+        × IsUntouched world w w'
+    pub broken : (at : ℕ) → world.disk.tells w.disk → IsNoShelfAt (world.disk.contents w.disk) at
+        → MayEndBefore at cause × IsUntouched world w w'
+
+  -- However the run ended, nothing was written but for the first ones of these files, and they fit the capacity. Nor
+  -- does a crash at any moment leave anything else, where nothing was pending.
+  pub record WritesOnly (files : List Placed) (w w' : Outside S D O) : Type 0 where
+    pub outside : (way : Way) → world.disk.tells w.disk → IsWay (world.disk.contents w.disk) way
+        → ChangesFor way files (world.disk.contents w.disk) (world.disk.contents w'.disk)
+    pub outside_any_moment : (way : Way) → world.disk.tells w.disk → IsWay (world.disk.contents w.disk) way
+        → NothingPending world.disk w.disk → ChangesImagesFor world.disk way files w.disk w'.disk
+
 -- the whole call, over every disk
 pub record ReceiveRun {S D O : Type 0} (world : World S D O) (asked : ReceiveQuery) (cause : Cause)
     (w w' : Outside S D O) : Type 0 where
   pub causes : IsReceiveCause cause
   -- the first event decides
   pub first : CountsTell SourceBesides cause (counts_in world w) (counts_in world w')
-  pub told_by_disk : world.disk.tells w.disk → world.disk.tells w'.disk
-  pub untold_by_disk : world.disk.tells w'.disk → world.disk.tells w.disk
-  pub told_by_out : world.out.tells w.out → world.out.tells w'.out
-  pub untold_by_out : world.out.tells w'.out → world.out.tells w.out
+  pub tell : TellOn (world_outlets world) (outlets_in w) (outlets_in w')
   -- these bytes were taken
   pub bytes : List ℕ
   pub read : IsRead world.source asked.limit bytes w.source w'.source
-  -- over a disk that tells its contents, stands for a shelf, and has nothing pending
-  pub onto_shelf : (capacity : ℕ) (items : List Item) → world.disk.tells w.disk
-      → IsDurable world.disk capacity items w.disk
-      → Receives world (run_onto (OfItems capacity items) (intake_of asked bytes)) cause w w'
-  -- over one that has a way, whatever its records hold, and has nothing pending
-  pub onto_way : (way : Way) → world.disk.tells w.disk → IsWay (world.disk.contents w.disk) way
-      → NothingPending world.disk w.disk
-      → Receives world (run_onto (OfWay way (world.disk.contents w.disk)) (intake_of asked bytes))
-      cause w w'
-  -- no file is put off, over either; and also with something pending at the start, where a byte was taken
-  pub keeps_up : (initial : InitialShelf) → world.disk.tells w.disk
-      → StandsWith initial [] (world.disk.contents w.disk) → (bytes ≡ [] → NothingPending world.disk w.disk)
-      → PutsNoFileOff world (taken_by asked.mend asked.input asked.workers bytes) initial w w'
-  -- a disk on which no shelf stands is refused, exactly then
-  pub refused : (at : ℕ) → cause ≡ Refused (NotAShelf at)
-      → (world.disk.tells w.disk → IsNoShelfAt (world.disk.contents w.disk) at)
-      × IsUntouched world w w'
-  pub broken : (at : ℕ) → world.disk.tells w.disk → IsNoShelfAt (world.disk.contents w.disk) at
-      → MayEndBefore at cause × IsUntouched world w w'
-  -- over every disk that tells its contents the capacity is refused only where the next file's end passes it, which
-  -- an empty source never brings about, and the work is done only where there was room for all files
-  pub full : (needed most : ℕ) → cause ≡ Refused (Capacity needed most) → world.disk.tells w.disk
-      → IsFull world.disk needed most (asked_files asked bytes) w.disk
-  pub nothing_fits : (needed most : ℕ) → cause ≡ Refused (Capacity needed most)
-      → world.source.tells w.source → world.source.left w.source ≡ [] → ⊥
-  pub room : IsWorkDone cause → world.disk.tells w.disk
-      → HadRoom world.disk (asked_files asked bytes) w.disk
-  -- where no file was read, the disk was only read; where it failed or memory was refused, `out` is as it was, and
-  -- where it failed, the source too
-  pub only_read : asked_files asked bytes ≡ [] → IsOnlyRead world.disk w.disk w'.disk
-  pub silent : asked_files asked bytes ≡ [] → IsEarlier cause → w'.out ≡ w.out
-  pub unasked : asked_files asked bytes ≡ [] → cause ≡ Failed Disk → w'.source ≡ w.source
-  -- where the work is done, also with something pending at the start, and over a disk that tells nothing
-  pub ended : IsWorkDone cause → EndsWork world (intake_of asked bytes) cause w w'
-  -- however the run ended, nothing was written but for the first ones of the files, and they fit the capacity
-  pub outside : (way : Way) → world.disk.tells w.disk → IsWay (world.disk.contents w.disk) way
-      → ChangesFor way (asked_files asked bytes) (world.disk.contents w.disk) (world.disk.contents w'.disk)
-  -- nor does a crash at any moment leave anything else, where nothing was pending
-  pub outside_any_moment : (way : Way) → world.disk.tells w.disk → IsWay (world.disk.contents w.disk) way
-      → NothingPending world.disk w.disk
-      → ChangesImagesFor world.disk way (asked_files asked bytes) w.disk w'.disk
+  pub onto : ComesOnto world asked bytes cause w w'
+  pub lines : GetsLines world asked bytes cause w w'
+  pub wants : WantsShelf world cause w w'
+  pub capacity : MindsCapacity world asked bytes cause w w'
+  pub alone : LeavesAlone world asked bytes cause w w'
+  pub writes : WritesOnly world (asked_files asked bytes) w w'

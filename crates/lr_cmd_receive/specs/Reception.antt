@@ -32,7 +32,7 @@ use Rattle.lr_reading.specs.Readers.{HaveCome, Leeway, MayWait}
 use Rattle.lr_reading.specs.Reading.{IsRead, WhenLastAsked}
 use Rattle.lr_causes.specs.Puts.{Puts, PutStops}
 use Rattle.lr_cmd_receive.specs.Receive.{counts_line, AreInTime, DoesWork, IsWorkDone, Ends}
-use Rattle.lr_cmd_receive.specs.Receive.{intake, work_done, run_onto}
+use Rattle.lr_cmd_receive.specs.Receive.{PutsLines, intake, run_from, work_done, run_onto}
 use Rattle.lr_cmd_receive.specs.Shelved.{HasShelved, MayStop, ShelfIn, ShelvesSoFar, StopsShelving, shelf_in, way_in}
 use Rattle.lr_cmd_receive.specs.Shelving.{AreAcknowledged, files_onto}
 
@@ -165,6 +165,9 @@ module _ {S D O : Type 0} (world : World S D O) (how : Reception) where
     pub ended : IsWorkDone cause → (stop : Stop) × (cause ≡ cause_at stop)
         × DoesWork world (work_done (intake how.mend (input_read how.input how.limit bytes)) (length
         (way_in old).entries) stop)
+        old.lent w'
+    pub stopped : (IsWorkDone cause → ⊥) → PutsLines world
+        (run_from (intake how.mend (input_read how.input how.limit bytes)) (length (way_in old).entries)) cause
         old.lent w'
     pub outside : world.disk.tells old.lent.disk
         → ChangesFor (way_in old) (placed_files (files_in how bytes)) (world.disk.contents old.lent.disk)

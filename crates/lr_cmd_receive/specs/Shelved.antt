@@ -19,7 +19,7 @@ use Rattle.lr_shelf.specs.Adding.{StaysOutside}
 use Rattle.lr_shelf.specs.InitialShelves.{InitialShelf, IsSettledOn, LeavesPrefixes, next_number}
 use Rattle.lr_shelf.specs.Prefixes.{HasRoom, end_with}
 use Rattle.lr_cmd_receive.specs.Onto.{ChangesFor, ChangesImagesFor, IsFullWith}
-use Rattle.lr_cmd_receive.specs.Shelving.{shelved_lines, AreAcknowledged, GotText, Stops, files_onto}
+use Rattle.lr_cmd_receive.specs.Shelving.{shelved_lines, AreAcknowledged, GotText, Stops, StopsInLines, files_onto}
 
 -- the causes for which shelving may stop, over any disk
 abbrev pub MayStop : Cause → Type 0
@@ -48,7 +48,7 @@ shelf_in shelf w = record { shelf = shelf; lent = w }
 abbrev pub way_in : {W : Type 0} → ShelfIn W → Way
 way_in at = (kept_by at.shelf).way
 
--- outcomes, and the one after them, where an image may have so many fillers
+-- outcomes, and the one after them, where an image has at most `mend` fillers
 pub record OneMore : Type 0 where
   pub mend : ℕ
   pub earlier : List Outcome
@@ -130,6 +130,7 @@ module _ {D O : Type 0} (world : OutletsOf D O) where
         → AreAcknowledged world (files_onto initial (done ++ files)) done before w'
     -- over every disk
     pub grown : GrowsNoMore cause (placed_files files) old w'
+    pub lines : StopsInLines world.out cause (length (way_in old).entries) files old.lent.out w'.out
     pub outside : world.disk.tells old.lent.disk
         → ChangesFor (way_in old) (placed_files files) (world.disk.contents old.lent.disk) (world.disk.contents w'.disk)
     pub moments : world.disk.tells old.lent.disk → NothingPending world.disk old.lent.disk

@@ -51,6 +51,23 @@ module _ {O : Type 0} (out : SinkOf O) where
   abbrev pub GotPart : List ℕ → List ℕ → O → O → Type 0
   GotPart text line o o' = out.tells o → PutsPart line (out.contents o ++ text) (out.contents o')
 
+  -- It got the lines of the files that are done, the first of which has that number, and a part of the line of the next
+  -- one.
+  pub record CutsLine (number : ℕ) (done rest : List NotedFile) (o o' : O) : Type 0 where
+    pub next : NotedFile
+    pub later : List NotedFile
+    pub split : rest ≡ next ∷ later
+    pub part : GotPart (shelved_lines number done) (noted_line (number + length done) next) o o'
+
+  -- Shelving these files, the first of which has that number, stopped for this cause: `out` got the lines of the first
+  -- ones, and where it failed a part of the next line.
+  pub record StopsInLines (cause : Cause) (number : ℕ) (files : List NotedFile) (o o' : O) : Type 0 where
+    pub done : List NotedFile
+    pub rest : List NotedFile
+    pub split : files ≡ done ++ rest
+    pub got : (cause ≡ Failed Output → ⊥) → GotText (shelved_lines number done) o o'
+    pub cut : cause ≡ Failed Output → CutsLine number done rest o o'
+
 -- what stood there before, and the files that come onto it
 pub record FilesOnto : Type 0 where
   pub initial : InitialShelf

@@ -24,7 +24,7 @@ fn mended_text(
     )
 }
 
-/// Appends the line of a file that was shelved with so many fillers, or nothing.
+/// Appends the line of a file that was shelved, with its number of fillers, or nothing.
 fn mended_line(
     alloc: Global,
     number: u64,

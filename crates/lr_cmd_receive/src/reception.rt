@@ -29,7 +29,7 @@ use std::alloc::Global;
 use std::sync::Wait;
 use std::thread::Threads;
 
-/// Shelves all files of the input through which the call `read` leads. An image may have so many fillers.
+/// Shelves all files of the input through which the call `read` leads. An image has at most `mend` fillers.
 pub(crate) fn receive_all<
     S: Source,
     D: Disk,

@@ -285,10 +285,12 @@ module _ {D O : Type 0} (disk : DiskOf D) (out : SinkOf O) where
   nothing_put only_now reads_none over d o = record {
     may = tt;
     counted = quiet_counts disk out NoMemory d d o o tt refl refl;
-    told = λ t. t;
-    untold = λ t. t;
-    told_by_out = λ t. t;
-    untold_by_out = λ t. t;
+    tell = record {
+      told_by_disk = λ t. t;
+      untold_by_disk = λ t. t;
+      told_by_out = λ t. t;
+      untold_by_out = λ t. t;
+    };
     only_read = only_read_yet disk only_now d (reads_none d);
     got = λ t. record {
       passed = 0;
@@ -298,6 +300,7 @@ module _ {D O : Type 0} (disk : DiskOf D) (out : SinkOf O) where
       untouched = λ none. refl;
     };
     untouched = λ one cuts. refl;
+    put = λ done. absurd done;
   }
 
   pub stops_at_once : ((x : D) (c : List ℕ) → disk.tells x → disk.left_since x (disk.moment x) c → disk.may_leave x c)

@@ -93,10 +93,12 @@ module _ {D O : Type 0} (disk : DiskOf D) (out : SinkOf O) (query : AdditionQuer
     earlier_run (Failed Disk) is counted = record {
       may = tt;
       counted = counted;
-      told = told;
-      untold = untold;
-      told_by_out = λ t. t;
-      untold_by_out = λ t. t;
+      tell = record {
+        told_by_disk = told;
+        untold_by_disk = untold;
+        told_by_out = λ t. t;
+        untold_by_out = λ t. t;
+      };
       leaves = inl (record { silent = refl; only_read = only_read });
       refused = λ refusal same t. cc (same);
       refuses = λ refusal t refused. inr tt;
@@ -108,10 +110,12 @@ module _ {D O : Type 0} (disk : DiskOf D) (out : SinkOf O) (query : AdditionQuer
     earlier_run NoMemory is counted = record {
       may = tt;
       counted = counted;
-      told = told;
-      untold = untold;
-      told_by_out = λ t. t;
-      untold_by_out = λ t. t;
+      tell = record {
+        told_by_disk = told;
+        untold_by_disk = untold;
+        told_by_out = λ t. t;
+        untold_by_out = λ t. t;
+      };
       leaves = record { silent = refl; only_read = only_read };
       refused = λ refusal same t. cc (same);
       refuses = λ refusal t refused. inr tt;
@@ -128,10 +132,12 @@ module _ {D O : Type 0} (disk : DiskOf D) (out : SinkOf O) (query : AdditionQuer
     refused_run refusal may count over = record {
       may = may;
       counted = quiet_counts disk out (Refused refusal) d d' o o tt count refl;
-      told = told;
-      untold = untold;
-      told_by_out = λ t. t;
-      untold_by_out = λ t. t;
+      tell = record {
+        told_by_disk = told;
+        untold_by_disk = untold;
+        told_by_out = λ t. t;
+        untold_by_out = λ t. t;
+      };
       leaves = record { silent = refl; only_read = only_read };
       refused = λ r same t.
           subst (IsAddingRefused query (disk.contents d)) (refused_is refusal r same) (over t);
@@ -210,7 +216,7 @@ module _ {D O : Type 0} (disk : DiskOf D) (out : SinkOf O) (query : AdditionQuer
         (still capacity items d d1 (ready.only_read.unwritten t) durable)
         (weaker disk.moment disk.left_since d1 d2 (StandsForEither capacity items addition.item)
         (StandsForOneMore query (disk.contents d) capacity items) to
-        (adding.any_moment capacity items (ready.settled capacity items t durable))) where
+        (adding.on_items.any_moment capacity items (ready.settled capacity items t durable))) where
           to : (c : List ℕ) → StandsForEither capacity items addition.item c
               → StandsForOneMore query (disk.contents d) capacity items c
           to c (inl stands) = inl stands
@@ -224,7 +230,7 @@ module _ {D O : Type 0} (disk : DiskOf D) (out : SinkOf O) (query : AdditionQuer
         (way_still way d d1 (ready.only_read.unwritten t) is_way only)
         (weaker disk.moment disk.left_since d1 d2 (HasEitherWay there addition.item)
         (HasWayOrOneMore query (disk.contents d) way) to
-        (adding.way_any_moment (ready.told t) (ready.keeps t) (ready.synced t))) where
+        (adding.on_way.any_moment (ready.told t) (ready.keeps t) (ready.synced t))) where
           same : there ≡ way
           same = one_way query once (disk.contents d) there way (way_is t) is_way
 
@@ -250,7 +256,7 @@ module _ {D O : Type 0} (disk : DiskOf D) (out : SinkOf O) (query : AdditionQuer
         (weaker disk.moment disk.left_since d1 d2 AreBoth (AreSameOrOneMore query (disk.contents d) way) to
         (both disk.moment disk.left_since d1 d2 Outside Within
         (adding.outside_any_moment (ready.told t) (ready.synced t))
-        (adding.bytes_any_moment (ready.told t) (ready.keeps t) (ready.synced t)))) where
+        (adding.on_way.bytes_any_moment (ready.told t) (ready.keeps t) (ready.synced t)))) where
           same : there ≡ way
           same = one_way query once (disk.contents d) there way (way_is t) is_way
 
@@ -321,10 +327,12 @@ module _ {D O : Type 0} (disk : DiskOf D) (out : SinkOf O) (query : AdditionQuer
           (shelf_counted disk out A d1 d2 o Disk' (λ same. cc (same))
           (subst (λ (r : Result A ShelfError). IsFaultCounted (disk.faults d1) (disk.faults d2) r) is
           adding.calls.counted));
-      told = told_both;
-      untold = untold_both;
-      told_by_out = λ t. t;
-      untold_by_out = λ t. t;
+      tell = record {
+        told_by_disk = told_both;
+        untold_by_disk = untold_both;
+        told_by_out = λ t. t;
+        untold_by_out = λ t. t;
+      };
       leaves = inr (
         refl,
         record {
@@ -335,10 +343,11 @@ module _ {D O : Type 0} (disk : DiskOf D) (out : SinkOf O) (query : AdditionQuer
               subst (λ (w : Way). MayEndWith (outlets_of disk out).disk addition.item w d d2)
               (one_way query once (disk.contents d) there way (way_is t) is_way)
               (record {
-                has = adding.either_way (ready.told t) (ready.keeps t);
+                has = adding.on_way.either (ready.told t) (ready.keeps t);
                 outside = outside_here (disk.contents d2) t (adding.outside (ready.told t));
               });
-          stands = λ capacity items t durable. adding.either capacity items (ready.settled capacity items t durable);
+          stands = λ capacity items t durable.
+              adding.on_items.either capacity items (ready.settled capacity items t durable);
         },
       );
       refused = λ r same t. cc (same);
@@ -364,7 +373,7 @@ module _ {D O : Type 0} (disk : DiskOf D) (out : SinkOf O) (query : AdditionQuer
       way_after t =
           subst (λ (k : KeptShelf). IsWay (disk.contents d2) k.way)
           (on_ok (kept_by shelf2 ≡ kept_with addition.item (kept_by shelf)) adding.kept)
-          (on_ok (KeepsWay (disk.contents d2) shelf2) (adding.way (ready.told t) (ready.keeps t)))
+          (on_ok (KeepsWay (disk.contents d2) shelf2) (adding.on_way.way (ready.told t) (ready.keeps t)))
 
       abbrev ItemStands : List ℕ → Type 0
       ItemStands c =
@@ -389,7 +398,7 @@ module _ {D O : Type 0} (disk : DiskOf D) (out : SinkOf O) (query : AdditionQuer
             });
         stands = λ capacity items t durable.
             (on_ok (IsSettled disk capacity (items ++ addition.item ∷ []) shelf2 d2)
-            (adding.acknowledged capacity items (ready.settled capacity items t durable))).on_disk;
+            (adding.on_items.acknowledged capacity items (ready.settled capacity items t durable))).on_disk;
       }
 
       -- and the text was put
@@ -398,10 +407,12 @@ module _ {D O : Type 0} (disk : DiskOf D) (out : SinkOf O) (query : AdditionQuer
       done_run o2 puts = record {
         may = tt;
         counted = quiet_counts disk out Done d d2 o o2 tt count_both puts.kept;
-        told = told_both;
-        untold = untold_both;
-        told_by_out = puts.told;
-        untold_by_out = puts.untold;
+        tell = record {
+          told_by_disk = told_both;
+          untold_by_disk = untold_both;
+          told_by_out = puts.told;
+          untold_by_out = puts.untold;
+        };
         leaves = adds_item (Puts out) o2 puts;
         refused = λ r same t. cc (same);
         refuses = λ r t is. absurd (over_none query once (disk.contents d) r addition is (may_add fits t));
@@ -417,10 +428,12 @@ module _ {D O : Type 0} (disk : DiskOf D) (out : SinkOf O) (query : AdditionQuer
       cut_run o2 fails = record {
         may = tt;
         counted = out_counts disk out d d2 o o2 fails.rose count_both;
-        told = told_both;
-        untold = untold_both;
-        told_by_out = fails.told;
-        untold_by_out = fails.untold;
+        tell = record {
+          told_by_disk = told_both;
+          untold_by_disk = untold_both;
+          told_by_out = fails.told;
+          untold_by_out = fails.untold;
+        };
         leaves = adds_item (PutFails out) o2 fails;
         refused = λ r same t. cc (same);
         refuses = λ r t is. absurd (over_none query once (disk.contents d) r addition is (may_add fits t));

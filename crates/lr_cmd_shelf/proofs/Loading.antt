@@ -105,13 +105,16 @@ module _ {D O : Type 0} (disk : DiskOf D) (out : SinkOf O) (query : Query) where
   not_started only_now d none o = record {
     may = tt;
     counted = quiet_counts disk out NoMemory d d o o tt refl refl;
-    told = λ t. t;
-    untold = λ t. t;
-    told_by_out = λ t. t;
-    untold_by_out = λ t. t;
+    tell = record {
+      told_by_disk = λ t. t;
+      untold_by_disk = λ t. t;
+      told_by_out = λ t. t;
+      untold_by_out = λ t. t;
+    };
     only_read = only_read_yet disk only_now d none;
     got = λ t. nothing_yet (disk.contents d) o;
     untouched = λ one cuts. refl;
+    put = λ done. absurd done;
   }
 
   module _ (d d1 : D) (o : O) (result : Result Shelf ShelfError) (loads : Loads disk d d1 result) where
@@ -128,22 +131,27 @@ module _ {D O : Type 0} (disk : DiskOf D) (out : SinkOf O) (query : Query) where
     not_loaded Disk' is refusal = record {
       may = tt;
       counted = disk_counts disk out d d1 o o (counted_load Disk' is).1 refl;
-      told = loads.calls.told;
-      untold = loads.calls.untold;
-      told_by_out = λ t. t;
-      untold_by_out = λ t. t;
+      tell = record {
+        told_by_disk = loads.calls.told;
+        untold_by_disk = loads.calls.untold;
+        told_by_out = λ t. t;
+        untold_by_out = λ t. t;
+      };
       only_read = loads.only_read;
       got = λ t. nothing (disk.contents d) o;
       untouched = λ one cuts. refl;
+      put = λ done. absurd done;
     }
     not_loaded (NotAShelf' at) is refusal = record {
       may = at_place at refl;
       counted =
           quiet_counts disk out (Refused (NotAShelf at)) d d1 o o tt (counted_load (NotAShelf' at) is) refl;
-      told = loads.calls.told;
-      untold = loads.calls.untold;
-      told_by_out = λ t. t;
-      untold_by_out = λ t. t;
+      tell = record {
+        told_by_disk = loads.calls.told;
+        untold_by_disk = loads.calls.untold;
+        told_by_out = λ t. t;
+        untold_by_out = λ t. t;
+      };
       only_read = loads.only_read;
       got = λ t. record {
         first = record {
@@ -156,6 +164,7 @@ module _ {D O : Type 0} (disk : DiskOf D) (out : SinkOf O) (query : Query) where
         is = inl (at, refusal t, refl);
       };
       untouched = λ one cuts. refl;
+      put = λ done. absurd done;
     }
     not_loaded (NotEmpty' size) is refusal = absurd refusal
     not_loaded (Capacity' needed most) is refusal = absurd refusal
@@ -164,13 +173,16 @@ module _ {D O : Type 0} (disk : DiskOf D) (out : SinkOf O) (query : Query) where
     not_loaded NoMemory' is refusal = record {
       may = tt;
       counted = quiet_counts disk out NoMemory d d1 o o tt (counted_load NoMemory' is) refl;
-      told = loads.calls.told;
-      untold = loads.calls.untold;
-      told_by_out = λ t. t;
-      untold_by_out = λ t. t;
+      tell = record {
+        told_by_disk = loads.calls.told;
+        untold_by_disk = loads.calls.untold;
+        told_by_out = λ t. t;
+        untold_by_out = λ t. t;
+      };
       only_read = loads.only_read;
       got = λ t. nothing_yet (disk.contents d) o;
       untouched = λ one cuts. refl;
+      put = λ done. absurd done;
     }
     not_loaded Failed' is refusal = absurd refusal
     not_loaded Discarded' is refusal = absurd refusal
@@ -263,10 +275,12 @@ module _ {D O : Type 0} (disk : DiskOf D) (out : SinkOf O) (query : Query) where
             (λ (c : FaultCounts). CountsTell NoneBesides cause c
             (outlet_counts (outlets_of disk out) (outlets d2 o')))
             (same_counts disk out d d1 o o counted_ok refl) runs.counted;
-        told = λ t. runs.told (loads.calls.told t);
-        untold = λ t. loads.calls.untold (runs.untold t);
-        told_by_out = runs.told_by_out;
-        untold_by_out = runs.untold_by_out;
+        tell = record {
+          told_by_disk = λ t. runs.tell.told_by_disk (loads.calls.told t);
+          untold_by_disk = λ t. loads.calls.untold (runs.tell.untold_by_disk t);
+          told_by_out = runs.tell.told_by_out;
+          untold_by_out = runs.tell.untold_by_out;
+        };
         only_read = only_read_joined disk reads_on d d1 d2 loads.calls.told loads.only_read runs.only_read;
         got = λ t.
             got_all t cause o'
@@ -274,4 +288,5 @@ module _ {D O : Type 0} (disk : DiskOf D) (out : SinkOf O) (query : Query) where
             (λ (b : List ℕ). Got out (allowed_on (query_on query (kept_by shelf).way) b)
             cause o o') (loads.only_read.unwritten t).contents (runs.got (loads.calls.told t)));
         untouched = runs.untouched;
+        put = runs.put;
       }

@@ -21,7 +21,7 @@ use Rattle.lr_cmd_shelf.specs.Queries.{AnswersIn, AnswersOn, BegunBy, query_over
 use Rattle.lr_causes.specs.Causes.{FaultCounts, done_with}
 use Rattle.lr_causes.specs.Counts.{CountsTell, NoneBesides}
 use Rattle.lr_causes.specs.Outside.{outlet_counts, outlets, outlets_of}
-use Rattle.lr_cmd_shelf.specs.Runs.{Got, IsDoneWith, PutsAll, PutsFirst, PutsRefused, PutsCut}
+use Rattle.lr_cmd_shelf.specs.Runs.{Got, IsDoneWith, PutsAll, PutsFirst, PutsRefused, PutsCut, PutsSeen}
 use Rattle.lr_cmd_shelf.specs.Runs.{RunsOn, by_count, allowed_on}
 use Rattle.lr_cmd_shelf.specs.Steps.{PutsText, CutsText, TextStops, TakesEntry, EntryStops, standing_at}
 use Rattle.lr_cmd_shelf.specs.Read.{HasGathered, IsDone}
@@ -249,6 +249,29 @@ module _ {D O : Type 0} (disk : DiskOf D) (out : SinkOf O) (query : Query) (way 
           (λ (l : List ℕ). AnswersFrom (query_over query (disk.contents d) way) (range.to - range.from) range.from []
           (refused_answer l refusal)) (append-nil so.text) (last_from (Err refusal) stops.0))
 
+-- ---- what stops a run isn't done
+
+module _ {D O : Type 0} (disk : DiskOf D) (out : SinkOf O) where
+  pub text_undone : (fate : Result (List ℕ) Refusal) (o o' : O) (cause : Cause) → TextStops out fate cause o o'
+      → IsDone cause → ⊥
+  text_undone fate o o' Done stops done = stops
+  text_undone fate o o' (DoneWith note) stops done = stops
+  text_undone fate o o' Usage stops done = done
+  text_undone fate o o' (Failed party) stops done = done
+  text_undone fate o o' NoMemory stops done = done
+  text_undone fate o o' (Refused refusal) stops done = done
+
+  pub entry_undone : (query : Query) (way : Way) (read : List EntryView) (number : ℕ) (d d' : D) (o o' : O)
+      (cause : Cause)
+      → EntryStops (outlets_of disk out) (standing_at query way read number) cause (outlets d o) (outlets d' o')
+      → IsDone cause → ⊥
+  entry_undone query way read number d d' o o' Done stops done = stops.stops
+  entry_undone query way read number d d' o o' (DoneWith note) stops done = stops.stops
+  entry_undone query way read number d d' o o' Usage stops done = done
+  entry_undone query way read number d d' o o' (Failed party) stops done = done
+  entry_undone query way read number d d' o o' NoMemory stops done = done
+  entry_undone query way read number d d' o o' (Refused refusal) stops done = done
+
 -- ---- the ways out
 
 module _ {D O : Type 0} (disk : DiskOf D) (out : SinkOf O) (query : Query) (way : Way) (d : D) (o : O) where
@@ -260,10 +283,12 @@ module _ {D O : Type 0} (disk : DiskOf D) (out : SinkOf O) (query : Query) (way 
   not_allowed only_now no_call count count_is none = record {
     may = by_count count none refl;
     counted = quiet_counts disk out (Refused (NoSuchFile count)) d d o o tt refl refl;
-    told = λ t. t;
-    untold = λ t. t;
-    told_by_out = λ t. t;
-    untold_by_out = λ t. t;
+    tell = record {
+      told_by_disk = λ t. t;
+      untold_by_disk = λ t. t;
+      told_by_out = λ t. t;
+      untold_by_out = λ t. t;
+    };
     only_read = only_read_yet disk only_now d no_call;
     got = λ t. record {
       first = record {
@@ -281,6 +306,7 @@ module _ {D O : Type 0} (disk : DiskOf D) (out : SinkOf O) (query : Query) (way 
           (ap (λ (n : ℕ). refused_answer [] (NoSuchFile n)) count_is);
     };
     untouched = λ one cuts. refl;
+    put = λ done. absurd done;
   }
 
   module _ (range : Range) (allowed : query.range (length way.entries) ≡ Some range)
@@ -307,12 +333,14 @@ module _ {D O : Type 0} (disk : DiskOf D) (out : SinkOf O) (query : Query) (way 
           (λ (c : FaultCounts). CountsTell NoneBesides cause c
           (outlet_counts (outlets_of disk out) (outlets d2 o2))) same_here
           counted;
-      told = λ t. told2 (told t);
-      untold = λ t. untold (untold2 t);
-      told_by_out = λ t.
-          entry_told disk out query way so.read number d1 d2 o1 o2 cause stops (so.puts.told t);
-      untold_by_out = λ t.
-          so.puts.untold (entry_untold disk out query way so.read number d1 d2 o1 o2 cause stops t);
+      tell = record {
+        told_by_disk = λ t. told2 (told t);
+        untold_by_disk = λ t. untold (untold2 t);
+        told_by_out = λ t.
+            entry_told disk out query way so.read number d1 d2 o1 o2 cause stops (so.puts.told t);
+        untold_by_out = λ t.
+            so.puts.untold (entry_untold disk out query way so.read number d1 d2 o1 o2 cause stops t);
+      };
       only_read = only_read_joined disk reads_on d d1 d2 told reads entry_reads;
       got = λ t.
           entry_got disk out query way range d o gathers number o1 o2 so more d1 told (λ t'.
@@ -321,6 +349,7 @@ module _ {D O : Type 0} (disk : DiskOf D) (out : SinkOf O) (query : Query) (way 
       untouched = λ one cuts.
           entry_untouched disk out query way so.read number d1 d2 o1 o2 cause stops cuts
           ∙ so.untouched (omega (arith, so.after, more, one.one (length way.entries) range allowed));
+      put = λ done. absurd (entry_undone disk out query way so.read number d1 d2 o1 o2 cause stops done);
     }
 
     -- the last text was put, and this is told beside it
@@ -333,6 +362,26 @@ module _ {D O : Type 0} (disk : DiskOf D) (out : SinkOf O) (query : Query) (way 
           (λ (n : Option Note). PutsAll out (allowed_on (query_on query way) (disk.contents d)) n o o2) (sym is)
           (last_put disk out query way range d o gathers number o1 o2 so inside all allowed t puts)
 
+      seen_so : out.tells o → (text : List ℕ) × (out.contents o2 ≡ out.contents o ++ text) × PutsSeen query text
+      seen_so told_out = (
+        so.text ++ puts.text,
+        puts.puts.put (so.puts.told told_out) ∙ ap (λ (l : List ℕ). l ++ puts.text) (so.puts.put told_out)
+            ∙ append_assoc (out.contents o) so.text puts.text,
+        record {
+          way = way;
+          range = range;
+          allowed = allowed;
+          read = so.read;
+          all = omega (arith, so.all, inside, all);
+          texts = so.texts;
+          count = so.seen.count;
+          each = so.seen.become;
+          last = puts.text;
+          last_is = puts.is;
+          is = ap (λ (l : List ℕ). l ++ puts.text) so.joined;
+        },
+      )
+
       done_with_so : (told_note : Option Note) → told_note ≡ query.tells so.read → IsDoneWith query told_note
       done_with_so told_note is =
           record { way = way; read = so.read; text = puts.text; last = puts.is; tells = sym is }
@@ -342,24 +391,30 @@ module _ {D O : Type 0} (disk : DiskOf D) (out : SinkOf O) (query : Query) (way 
       last_taken None is = record {
         may = done_with_so None is;
         counted = quiet_counts disk out Done d d1 o o2 tt count (puts.puts.kept ∙ so.puts.kept);
-        told = told;
-        untold = untold;
-        told_by_out = λ t. puts.puts.told (so.puts.told t);
-        untold_by_out = λ t. so.puts.untold (puts.puts.untold t);
+        tell = record {
+          told_by_disk = told;
+          untold_by_disk = untold;
+          told_by_out = λ t. puts.puts.told (so.puts.told t);
+          untold_by_out = λ t. so.puts.untold (puts.puts.untold t);
+        };
         only_read = reads;
         got = λ t. put_so t None is;
         untouched = λ one cuts. absurd cuts;
+        put = λ done. seen_so;
       }
       last_taken (Some note) is = record {
         may = done_with_so (Some note) is;
         counted = quiet_counts disk out (DoneWith note) d d1 o o2 tt count (puts.puts.kept ∙ so.puts.kept);
-        told = told;
-        untold = untold;
-        told_by_out = λ t. puts.puts.told (so.puts.told t);
-        untold_by_out = λ t. so.puts.untold (puts.puts.untold t);
+        tell = record {
+          told_by_disk = told;
+          untold_by_disk = untold;
+          told_by_out = λ t. puts.puts.told (so.puts.told t);
+          untold_by_out = λ t. so.puts.untold (puts.puts.untold t);
+        };
         only_read = reads;
         got = λ t. put_so t (Some note) is;
         untouched = λ one cuts. absurd cuts;
+        put = λ done. seen_so;
       }
 
       -- what all entries gave
@@ -396,34 +451,14 @@ module _ {D O : Type 0} (disk : DiskOf D) (out : SinkOf O) (query : Query) (way 
           (outlet_counts (outlets_of disk out) (outlets d1 o2)))
           same_here
           (text_counted disk out (query.last way so.read) d1 d1 o1 o2 refl cause stops);
-      told = told;
-      untold = untold;
-      told_by_out = λ t. text_told disk out (query.last way so.read) o1 o2 cause stops (so.puts.told t);
-      untold_by_out = λ t. so.puts.untold (text_untold disk out (query.last way so.read) o1 o2 cause stops t);
+      tell = record {
+        told_by_disk = told;
+        untold_by_disk = untold;
+        told_by_out = λ t. text_told disk out (query.last way so.read) o1 o2 cause stops (so.puts.told t);
+        untold_by_out = λ t. so.puts.untold (text_untold disk out (query.last way so.read) o1 o2 cause stops t);
+      };
       only_read = reads;
       got = λ t. last_got disk out query way range d o gathers number o1 o2 so inside all allowed t cause stops;
       untouched = λ one cuts. absurd (some (one.nothing_last way so.read));
+      put = λ done. absurd (text_undone disk out (query.last way so.read) o1 o2 cause stops done);
     }
-
--- ---- what stops a run isn't done
-
-module _ {D O : Type 0} (disk : DiskOf D) (out : SinkOf O) where
-  pub text_undone : (fate : Result (List ℕ) Refusal) (o o' : O) (cause : Cause) → TextStops out fate cause o o'
-      → IsDone cause → ⊥
-  text_undone fate o o' Done stops done = stops
-  text_undone fate o o' (DoneWith note) stops done = stops
-  text_undone fate o o' Usage stops done = done
-  text_undone fate o o' (Failed party) stops done = done
-  text_undone fate o o' NoMemory stops done = done
-  text_undone fate o o' (Refused refusal) stops done = done
-
-  pub entry_undone : (query : Query) (way : Way) (read : List EntryView) (number : ℕ) (d d' : D) (o o' : O)
-      (cause : Cause)
-      → EntryStops (outlets_of disk out) (standing_at query way read number) cause (outlets d o) (outlets d' o')
-      → IsDone cause → ⊥
-  entry_undone query way read number d d' o o' Done stops done = stops.stops
-  entry_undone query way read number d d' o o' (DoneWith note) stops done = stops.stops
-  entry_undone query way read number d d' o o' Usage stops done = done
-  entry_undone query way read number d d' o o' (Failed party) stops done = done
-  entry_undone query way read number d d' o o' NoMemory stops done = done
-  entry_undone query way read number d d' o o' (Refused refusal) stops done = done

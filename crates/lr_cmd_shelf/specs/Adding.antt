@@ -17,7 +17,7 @@ use Rattle.lr_causes.specs.declared.cause.Cause.{Cause}
 use Rattle.lr_causes.specs.declared.cause.Cause.TheVariants.{Done, Failed, NoMemory, Refused}
 use Rattle.lr_causes.specs.Causes.{IsEarlier}
 use Rattle.lr_causes.specs.Counts.{CountsTell, NoneBesides}
-use Rattle.lr_causes.specs.Outside.{Outlets, OutletsOf, outlet_counts}
+use Rattle.lr_causes.specs.Outside.{Outlets, OutletsOf, outlet_counts, TellOn}
 use Rattle.lr_causes.specs.Puts.{Puts, PutFails}
 
 -- an item that is added, and the text that tells it then
@@ -172,10 +172,7 @@ module _ {D O : Type 0} (world : OutletsOf D O) (query : AdditionQuery) where
     pub may : MayEndAdding query cause
     -- no party failed but the one that the cause names
     pub counted : CountsTell NoneBesides cause (outlet_counts world w) (outlet_counts world w')
-    pub told : world.disk.tells w.disk → world.disk.tells w'.disk
-    pub untold : world.disk.tells w'.disk → world.disk.tells w.disk
-    pub told_by_out : world.out.tells w.out → world.out.tells w'.out
-    pub untold_by_out : world.out.tells w'.out → world.out.tells w.out
+    pub tell : TellOn world w w'
     pub leaves : LeavesAdding cause w w'
     -- a refusal comes exactly where it stands, unless the disk failed or memory was refused; the item is added exactly
     -- where none stands

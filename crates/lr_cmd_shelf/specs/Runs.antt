@@ -1,5 +1,7 @@
 -- What a command that reads entries does to `out` and to the disk, for each cause.
-use Rattle.std.specs.Prelude.{◌≡◌, ◌⊎◌, ◌<◌, ◌+◌, ℕ, Option, Some, None, Ok, Err, List, ◌++◌, length}
+use Rattle.std.specs.Prelude.{◌≡◌, ◌⊎◌, ◌<◌, ◌+◌, ◌-◌, ℕ, Option, Some, None, Ok, Err, List, [], ◌++◌, length, take}
+use Rattle.std.specs.Prelude.{slice_get, slice_index_or}
+use Rattle.std.specs.List.{concat}
 use Rattle.lr_io.specs.declared.sink.Sink.{Ghosts as SinkOf}
 use Rattle.lr_io.specs.Pieces.{PutsPart}
 use Rattle.lr_disk.specs.Reads.{IsOnlyRead}
@@ -13,9 +15,11 @@ use Rattle.lr_shelf_format.specs.Way.{Way}
 use Rattle.lr_cmd_shelf.specs.Queries.{Query, QueryOn, Answer, AnswersOn, BegunBy, IsAnswer, IsBegun}
 use Rattle.lr_cmd_shelf.specs.Queries.{PutsOneText, EntryView, done_answer, query_over}
 use Rattle.lr_cmd_shelf.specs.Queries.{refused_answer}
+use Rattle.lr_cmd_shelf.specs.declared.range.Range.{Range}
+use Rattle.lr_cmd_shelf.specs.Read.{IsDone}
 use Rattle.lr_causes.specs.Causes.{done_with}
 use Rattle.lr_causes.specs.Counts.{CountsTell, NoneBesides}
-use Rattle.lr_causes.specs.Outside.{Outlets, OutletsOf, outlet_counts}
+use Rattle.lr_causes.specs.Outside.{Outlets, OutletsOf, outlet_counts, TellOn}
 
 -- what a command may be refused for, over any disk: no shelf or no item at a place, a count by which a number isn't
 -- allowed, or what it says of something that was seen or of all that was
@@ -127,15 +131,27 @@ module _ {O : Type 0} (out : SinkOf O) (may : Allowed) where
   Got (Refused refusal) o o' = PutsRefused refusal o o'
   Got _ o o' = ⊥
 
+-- the texts of all entries of a range, as they were seen, one after another, and the last text
+pub record PutsSeen (query : Query) (text : List ℕ) : Type 0 where
+  pub way : Way
+  pub range : Range
+  pub allowed : query.range (length way.entries) ≡ Some range
+  pub read : List EntryView
+  pub all : length read ≡ range.to - range.from
+  pub texts : List (List ℕ)
+  pub count : length texts ≡ length read
+  pub each : (i : ℕ) (one : EntryView) → slice_get read i ≡ Some one
+      → query.entry_text (take i read) (range.from + i) one ≡ Ok (slice_index_or texts i [])
+  pub last : List ℕ
+  pub last_is : query.last way read ≡ Ok last
+  pub is : text ≡ concat texts ++ last
+
 module _ {D O : Type 0} (world : OutletsOf D O) where
   pub record RunsReading (asked : Reading) (cause : Cause) (w w' : Outlets D O) : Type 0 where
     pub may : MayCause asked.query cause
     -- no party failed but the one that the cause names
     pub counted : CountsTell NoneBesides cause (outlet_counts world w) (outlet_counts world w')
-    pub told : world.disk.tells w.disk → world.disk.tells w'.disk
-    pub untold : world.disk.tells w'.disk → world.disk.tells w.disk
-    pub told_by_out : world.out.tells w.out → world.out.tells w'.out
-    pub untold_by_out : world.out.tells w'.out → world.out.tells w.out
+    pub tell : TellOn world w w'
     -- the disk is only read, whatever it tells
     pub only_read : IsOnlyRead world.disk w.disk w'.disk
     -- `out` got what the bytes answer; a refusal comes only where it is that of the answer, with its values
@@ -143,6 +159,9 @@ module _ {D O : Type 0} (world : OutletsOf D O) where
         → Got world.out (asked.allowed (world.disk.contents w.disk)) cause w.out w'.out
     -- over any disk, where the only text is that of one entry
     pub untouched : PutsOneText asked.query → CutsNothing cause → w'.out ≡ w.out
+    -- over any disk, where the work is done
+    pub put : IsDone cause → world.out.tells w.out → (text : List ℕ)
+        × (world.out.contents w'.out ≡ world.out.contents w.out ++ text) × PutsSeen asked.query text
 
   -- a run over the entries of a shelf of this way
   abbrev pub RunsOn : QueryOn → Cause → Outlets D O → Outlets D O → Type 0

@@ -146,7 +146,7 @@ module _ {D : Type 0} (disk : DiskOf D) (shelf : Shelf) (d : D) (files : List Pl
           outside = λ t. outside_one (disk.contents d') t (adds.outside (so_far.told t));
           durable = λ t only. adds.durable (so_far.told t);
           outside_any_moment = λ t only. outside_moments (Ok answer) adds t only;
-          way = λ t keeps. subst (IsWay (disk.contents d')) way (adds.way (so_far.told t) (keeps_way t keeps));
+          way = λ t keeps. subst (IsWay (disk.contents d')) way (adds.on_way.way (so_far.told t) (keeps_way t keeps));
           on = λ initial s. (
             (settled_on disk leaves_contents counts_now files placed old new mid d' answer adds initial
                 (settled_mid initial s)).on_disk,
@@ -167,7 +167,7 @@ module _ {D : Type 0} (disk : DiskOf D) (shelf : Shelf) (d : D) (files : List Pl
       outside_any_moment = λ t only. outside_moments (Err Disk) adds t only;
       way = λ t keeps.
           subst (λ (w : Way). HasEitherWay w (item_for placed) (disk.contents d')) way_is
-          (adds.either_way (so_far.told t) (keeps_way t keeps));
+          (adds.on_way.either (so_far.told t) (keeps_way t keeps));
       on = λ initial s.
           let before = settled_mid initial s in (
             record {

@@ -52,7 +52,8 @@ pub record Rooms : Type 0 where
 abbrev pub rooms : (out err shelf : List ℕ) → Rooms
 rooms out err shelf = record { out = out; err = err; shelf = shelf }
 
--- a disk of these bytes with nothing pending, this room and so many calls, none of which was made or is to fail
+-- a disk of these bytes with nothing pending and this room. It allows this number of calls, of which none was made and
+-- none is to fail.
 pub record IsDiskOf (bytes : List ℕ) (room calls : ℕ) (disk : MemDisk) : Type 0 where
   pub holds : disk_bytes disk ≡ bytes
   pub durable : Only bytes (images_by disk)

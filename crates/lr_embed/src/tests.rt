@@ -25,7 +25,7 @@ struct Handed {
 /// A new shelf of 100 bytes: its header and a closed gate.
 const NEW: &[u8] = b"\x5ALRSHELF\x02\x00\x00\x00\x00\x00\x00\x00\x64\xE0\x53\x00";
 
-/// Runs these words over this shelf, with so many bytes of room for what is put and for the shelf.
+/// Runs these words over this shelf, with these rooms, in bytes, for what is put and for the shelf.
 fn run_with(
     alloc: Global,
     words: &[u8],

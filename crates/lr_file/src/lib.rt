@@ -20,3 +20,4 @@ pub use laws::{
     a_packet_adds_its_file, files_are_some, files_fit_the_packets, files_keep_their_order,
     one_file_ends_with_a_packet, one_file_is_open,
 };
+pub use part::{Part, part_of};

@@ -5,7 +5,7 @@ ghost use Rattle.lr_file.specs.Steps.{part_by_flags};
 
 /// Which part of its file a packet brings (CCSDS 133.0-B, section 4.1.3.4, the sequence flags).
 #[derive(Clone, Copy)]
-pub(crate) enum Part {
+pub enum Part {
     /// The first body of several.
     First,
     /// One between the first and the last.
@@ -17,7 +17,7 @@ pub(crate) enum Part {
 }
 
 /// The part that these flags tell: 1 the first, 0 one between, 2 the last and 3 all.
-pub(crate) fn part_of(flags: u8) -> Part
+pub fn part_of(flags: u8) -> Part
     ensures { result ≡ part_by_flags flags }
 {
     match flags {

@@ -12,7 +12,7 @@ use Rattle.jiff_core.proofs.SignedLemmas.{signed_arith}
 use Rattle.jiff.proofs.Family.{epoch_day_injective, epoch_day_range, days_from_civil-day, days_from_civil-next_month}
 use Rattle.jiff.proofs.Family.{days_from_civil-next_year, days_from_civil-max}
 use Rattle.lr_headers.specs.declared.fields.Stamp.{Stamp}
-use Rattle.lr_headers.specs.Laws.{StampTextsAreOne}
+use Rattle.lr_headers.specs.Laws.{StampTextsAreOne, StampsHaveTexts}
 use Rattle.lr_headers.specs.Stamps.{Day, IsTextIf, clock_text, day_after, day_text, is_date, next_day}
 use Rattle.lr_headers.specs.Stamps.{other_text, stamp_text}
 
@@ -97,21 +97,26 @@ day_is zero few = record {
 }
 day_is (suc n) few = next_is n (day_after n) (omega arith) (day_is n (omega arith))
 
-date_is : (n : ℕ) (date : Date) → epoch_day date ≡ pos n -ℤ pos 4383 → date_text date ≡ day_text (day_after n)
-date_is n date on_day =
-    let few : n ≤ 2937279 = omega (arith, signed_arith, epoch_day_range date) in
+-- that day as a date
+date_on : (n : ℕ) → n ≤ 2937279 → Date
+date_on n few =
     let is = day_is n few in
     let d = day_after n in
     let year = is.year_in in
-    let other : Date = record {
+    record {
       year = pos d.year;
       month = d.month;
       day = d.day;
       year_in = (omega (arith, signed_arith), omega (arith, signed_arith));
       month_in = is.month_in;
       day_in = is.day_in;
-    } in
-    let same = epoch_day_injective date other (on_day ∙ sym is.number) in
+    }
+
+date_is : (n : ℕ) (date : Date) → epoch_day date ≡ pos n -ℤ pos 4383 → date_text date ≡ day_text (day_after n)
+unfolding date_on
+date_is n date on_day =
+    let few : n ≤ 2937279 = omega (arith, signed_arith, epoch_day_range date) in
+    let same = epoch_day_injective date (date_on n few) (on_day ∙ sym (day_is n few).number) in
     rw (same.0, same.1, same.2) refl
 
 text_by : (stamp : Stamp) (text : List ℕ) (b : Bool) → IsTextIf b stamp text
@@ -123,6 +128,25 @@ text_by stamp text true is =
     ∙ ap (λ (date : List ℕ). concat (date ∷ codes "T" ∷ clock_text stamp.milliseconds ∷ codes "Z" ∷ []))
     (date_is stamp.days is.date is.on_day)
 text_by stamp text false is = is
+
+text_for : (stamp : Stamp) → stamp.days ≤ 2937279 → (b : Bool) → IsTextIf b stamp (cond b
+    (concat (day_text (day_after stamp.days) ∷ codes "T" ∷ clock_text stamp.milliseconds ∷ codes "Z" ∷ []))
+    (other_text stamp))
+unfolding date_on
+text_for stamp few true =
+    let date = date_on stamp.days few in
+    let on_day = (day_is stamp.days few).number in
+    record {
+      date = date;
+      on_day = on_day;
+      is_text = sym (ap (λ (text : List ℕ). concat (text ∷ codes "T" ∷ clock_text stamp.milliseconds ∷ codes "Z" ∷ []))
+          (date_is stamp.days date on_day));
+    }
+text_for stamp few false = refl
+
+pub stamps_have_texts : StampsHaveTexts
+unfolding stamp_text
+stamps_have_texts stamp few = text_for stamp (omega (arith, few)) (is_date stamp)
 
 pub stamp_texts_are_one : StampTextsAreOne
 unfolding stamp_text

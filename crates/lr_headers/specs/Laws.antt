@@ -1,5 +1,5 @@
 -- What is said of all headers.
-use Rattle.std.specs.Prelude.{◌≡◌, ℕ, List, MatchResult}
+use Rattle.std.specs.Prelude.{◌≡◌, ◌<◌, ◌^◌, ℕ, List, MatchResult}
 use Rattle.lr_headers.specs.declared.fault.HeaderFault.{HeaderFault}
 use Rattle.lr_headers.specs.declared.fields.Stamp.{Stamp}
 use Rattle.lr_headers.specs.Headers.{header_of}
@@ -25,6 +25,10 @@ HeaderFaultsAreOne = (proper : List ℕ) (fault other : HeaderFault) → HasHead
 abbrev pub HeadersAreRead : Type 0
 HeadersAreRead = (proper : List ℕ) → MatchResult (header_of proper) (IsHeaderOf proper) (HasHeaderFault proper)
 
--- a stamp has one text
+-- a stamp has a text: there is a date that many days after 1 January 1958
+abbrev pub StampsHaveTexts : Type 0
+StampsHaveTexts = (stamp : Stamp) → stamp.days < 2 ^ 16 → IsStampText stamp (stamp_text stamp)
+
+-- and no other one
 abbrev pub StampTextsAreOne : Type 0
 StampTextsAreOne = (stamp : Stamp) (text : List ℕ) → IsStampText stamp text → text ≡ stamp_text stamp

@@ -1,7 +1,7 @@
 //! What holds of all headers.
 
 ghost use Rattle.lr_headers.specs.Laws.{HeaderFaultsAreOne, HeadersAreOne, HeadersAreRead, HeadersHaveNoFault};
-ghost use Rattle.lr_headers.specs.Laws.{StampTextsAreOne};
+ghost use Rattle.lr_headers.specs.Laws.{StampTextsAreOne, StampsHaveTexts};
 
 /// A file proper has at most one header: its records tile the header's bytes in one way.
 pub fn headers_are_one()
@@ -23,7 +23,12 @@ pub fn headers_are_read()
     ensures { HeadersAreRead }
 {}
 
-/// A time stamp has one text, which `stamp_text` of `specs/Stamps` gives.
+/// A time stamp has a text, which `stamp_text` of `specs/Stamps` gives.
+pub fn stamps_have_texts()
+    ensures { StampsHaveTexts }
+{}
+
+/// A time stamp has one text.
 pub fn stamp_texts_are_one()
     ensures { StampTextsAreOne }
 {}

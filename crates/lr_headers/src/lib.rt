@@ -28,7 +28,7 @@ pub use kinds::{
 };
 pub use laws::{
     header_faults_are_one, headers_are_one, headers_are_read, headers_have_no_fault,
-    stamp_texts_are_one,
+    stamp_texts_are_one, stamps_have_texts,
 };
 pub use records::Records;
 pub use stamp::stamp_text;

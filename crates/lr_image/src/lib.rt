@@ -7,8 +7,8 @@
 //! first fault.
 //!
 //! The steps of `image_of` are public for those who read an image in parts: `layout_of` reads the header, `next_piece`
-//! gives the pieces of a losslessly coded image one after another, `room_for` takes the memory for its pixels, and
-//! `read_pixels` reads pixels from any bit on.
+//! gives the pieces of a losslessly coded image one after another, `most_pixels` tells for how many pixels memory is
+//! taken, and `read_pixels` reads pixels from any bit on.
 #![tactic(auto)]
 
 mod coded;
@@ -31,5 +31,5 @@ pub use pgm::{pgm_head, pgm_line, write_pixels};
 pub use pieces::{PiecePlace, first_piece, next_piece};
 pub use plain::{missing_pixels, read_pixels};
 pub use reading::image_of;
-pub use room::room_for;
+pub use room::most_pixels;
 pub use shape::{MOST_PIXELS, Shape, shape_of};

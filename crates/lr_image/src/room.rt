@@ -15,9 +15,8 @@ use std::alloc::Global;
 const IDENTIFIER_BITS: u64 = 3;
 
 /// Pixels of 0, as many as an image of this shape has at most, where this many bytes of the file come before its data
-/// field. The memory is taken in one piece: for no more lines than the header claims, and where the image is coded
-/// without loss for no more than the pieces of the file can have.
-pub fn room_for(
+/// field. The memory is taken in one piece.
+pub(crate) fn room_for(
     alloc: Global,
     file: &MissionFile,
     skipped: usize,
@@ -25,6 +24,15 @@ pub fn room_for(
 ) -> Result<Pixels, NoMemory>
     ensures { IfOk result
         (λ pixels. pixels ≡ replicate (most_pixels_for shape (pieces_after skipped file.now.bodies)) 0) }
+{
+    Pixels::zeros(alloc, most_pixels(file, skipped, shape))
+}
+
+/// How many pixels an image of this shape has at most, where this many bytes of the file come before its data field:
+/// those of no more lines than the header claims, and where the image is coded without loss of no more than the pieces
+/// of the file can have.
+pub fn most_pixels(file: &MissionFile, skipped: usize, shape: Shape) -> usize
+    ensures { result ≡ most_pixels_for shape (pieces_after skipped file.now.bodies) }
 {
     let Shape {
         structure,
@@ -34,7 +42,7 @@ pub fn room_for(
         None => u32::from(structure.lines),
         Some(lossless) => most_lines(file, first_piece(skipped), structure, lossless),
     };
-    Pixels::zeros(alloc, usize::from(structure.columns) * lines as usize)
+    usize::from(structure.columns) * lines as usize
 }
 
 /// How many lines of an image of this structure the pieces from this place on have at most: no more than a packet may

@@ -49,7 +49,7 @@ pub record CountsView : Type 0 where
   pub packets : ℕ
   pub files : ℕ
 
--- where an image may have so many fillers
+-- where an image has at most `mend` fillers
 abbrev pub mended_numbers_of : ℕ → List Outcome → CountsView
 mended_numbers_of mend outcomes = record {
   restored = count_by is_restored outcomes;

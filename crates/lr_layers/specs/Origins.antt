@@ -99,7 +99,7 @@ placed_files_after mend outcomes before [] = []
 placed_files_after mend outcomes before (last ∷ packets) =
     placed_files_with mend outcomes before last ++ placed_files_after mend outcomes (before ++ last ∷ []) packets
 
--- all files, in the order of their last packets, where an image may have so many fillers
+-- all files, in the order of their last packets, where an image has at most `mend` fillers
 unfoldable pub marked_of_outcomes : ℕ → List Outcome → List MarkedPlaced
 marked_of_outcomes mend outcomes = placed_files_after mend outcomes [] (placed_packets outcomes)
 

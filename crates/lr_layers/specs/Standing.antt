@@ -47,7 +47,7 @@ pub record AreFew (mend : ℕ) (numbers : CountsView) : Type 0 where
   pub files : numbers.files ≤ 2 * numbers.packets
   pub plain : mend ≡ 0 → numbers.files ≤ numbers.packets
 
--- what is kept stands for these outcomes, where an image may have so many fillers
+-- what is kept stands for these outcomes, where an image has at most `mend` fillers
 pub record MendingLayersStandFor (mend : ℕ) (kept : KeptLayers) (outcomes : List Outcome) : Type 0 where
   pub most : kept.files.images.most ≡ mend
   pub unspent : kept.spent ≡ false

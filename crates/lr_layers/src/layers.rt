@@ -71,7 +71,8 @@ impl Layers {
         Layers::mending(alloc, 0)
     }
 
-    /// No outcomes yet, and images that may have so many fillers; with 0 no packets are mended. This takes no memory.
+    /// No outcomes yet, and images with at most this many fillers each: with 0 no packets are mended. It takes no
+    /// memory.
     pub fn mending(alloc: Global, most: u16) -> Self
         requires { most ≤ MOST_FILLERS }
         ensures { MendingLayersStandFor most result [] }
@@ -167,14 +168,14 @@ impl Layers {
         let read = read_frame(bytes, &mut counts);
         counts.restored += 1;
         let now = self.now(corrected);
-        let Some(frame) = read else {
+        let Some(frame) = &read else {
             self.counts = counts;
             self.corrected = now.corrected;
             return Ok(());
         };
         let before = files.len();
         let fillers_before = fillers.len();
-        match push_frame(&frame, now, &mut self.frames, counted, files, fillers) {
+        match push_frame(frame, now, &mut self.frames, counted, files, fillers) {
             Ok(gained) => {
                 counts.packets += gained.packets;
                 counts.files += gained.files;

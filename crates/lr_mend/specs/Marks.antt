@@ -27,7 +27,7 @@ places_text before [] = []
 places_text before (place ∷ places) =
     place_text before place (goes_on_at place places) ++ places_text (goes_on_at place places) places
 
--- `gomtasil mended 2 8-9 of 13`: the places of the fillers among so many packets, which count from 0
+-- `gomtasil mended 2 8-9 of 13`: the places of the fillers, which count from 0, and how many packets there are
 unfoldable pub mark_text : List ℕ → ℕ → List ℕ
 mark_text places packets = codes "gomtasil mended" ++ places_text false places ++ codes " of " ++ decimal packets
 

@@ -24,7 +24,7 @@ abbrev pub mended_files_after : List Mended → List Mended → List MarkedFile
 mended_files_after before [] = []
 mended_files_after before (m ∷ ms) = option_to_list (mended_file before m) ++ mended_files_after (before ++ m ∷ []) ms
 
--- the files of packets that are mended with at most so many fillers for an image
+-- the files of packets that are mended with at most `most` fillers for an image
 unfoldable pub mended_files : ℕ → List Good → List MarkedFile
 mended_files most packets = mended_files_after [] (mended_packets most packets)
 
@@ -72,7 +72,7 @@ abbrev pub kept_mended : KeptImages → KeptFiles → List ((ℕ × ℕ) × Seam
 kept_mended images files seams = record { spent = false; images = images; files = files; seams = seams }
 
 -- A packet was taken, which came after these: what is kept stands for it too, and these are the files that end with it
--- and with its fillers, of which so many are allowed.
+-- and with its fillers. An image has at most `most` of them.
 pub record TakesPacket (most : ℕ) (packets : List Good) (packet : Good) (kept : KeptMended) (ended : Ended)
     : Type 0 where
   pub stands : MendedStandFor kept (packets ++ packet ∷ [])

@@ -174,6 +174,6 @@ mended_after most before [] = []
 mended_after most before (packet ∷ packets) =
     mended_with most before packet ++ mended_after most (before ++ packet ∷ []) packets
 
--- the packets, mended with at most so many fillers for an image
+-- the packets, mended with at most `most` fillers for an image
 unfoldable pub mended_packets : ℕ → List Good → List Mended
 mended_packets most packets = mended_after most [] packets

@@ -170,7 +170,7 @@ impl OpenImage {
         !self.filling(packet).is_empty() && (self.is_over(packet) || !begins_file(packet))
     }
 
-    /// How many fillers come before this packet, where the image may have so many.
+    /// How many fillers come before this packet, where the image may have `most` in all.
     pub(crate) fn fillers_before(&self, most: u16, packet: &GoodPacket) -> u16
         requires { most ≤ most_fillers }
         ensures value { result ≡ fillers_before most self.now (good packet.now) }
@@ -210,7 +210,7 @@ impl OpenImage {
         }
     }
 
-    /// Goes on with the packet, before which so many fillers came. This takes no memory but the growth of the body.
+    /// Goes on with the packet, before which these fillers came. This takes no memory but the growth of the body.
     pub(crate) fn go_on(&mut self, fillers: u16, packet: &GoodPacket) -> Result<(), NoMemory>
         requires { self.old.fillers + fillers ≤ most_fillers }
         ensures { OnOk result (self.new ≡ image_with self.old fillers (good packet.now)) }

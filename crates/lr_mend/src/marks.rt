@@ -4,6 +4,7 @@ ghost use Rattle.std.specs.Prelude.{◌≡◌, ◌≤◌, ◌<◌, ◌+◌, ◌^
 ghost use Rattle.std.specs.Prelude.{true};
 ghost use Rattle.lr_bits.specs.File.{bytes_of};
 ghost use Rattle.lr_bits.specs.Sizes.{most_body_bytes};
+ghost use Rattle.lr_bits.specs.declared.sizes.TheConstants.{TRANSPORT_HEADER_BYTES};
 ghost use Rattle.lr_mend.specs.Marks.{
   can_be_marked,
   first_of,
@@ -94,7 +95,7 @@ fn put_places(alloc: Global, places: &[u32], out: &mut Bytes) -> Result<(), NoMe
     Ok(())
 }
 
-/// The text that says which of so many packets are fillers.
+/// The text that says which packets of an image are fillers, and how many packets it has.
 #[tactic(auto, unfolding(crate::specs::Marks::mark_text))]
 fn mark_text(alloc: Global, places: &[u32], packets: u32) -> Result<Bytes, NoMemory>
     ensures { IfOk result (λ text. text ≡ mark_text places.now packets) }
@@ -136,7 +137,7 @@ fn longer_first(alloc: Global, more: u16, lengths: &[u16]) -> Result<Lengths, No
 fn marked_bytes(alloc: Global, mark: &[u8], bytes: &[u8], size: usize) -> Result<Bytes, NoMemory>
     requires size { size ≡ header_bytes_in bytes.now }
     requires least { 8 ≤ size }
-    requires inside { size + 10 ≤ length bytes.now }
+    requires inside { size + TRANSPORT_HEADER_BYTES ≤ length bytes.now }
     requires few { size + length mark.now < 2 ^ 32 }
     ensures { IfOk result (λ made. made ≡ marked_bytes mark.now bytes.now) }
 {

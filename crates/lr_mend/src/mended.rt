@@ -198,7 +198,7 @@ impl Model for MendedFiles {
 }
 
 impl MendedFiles {
-    /// No packets yet, and images that may have so many fillers; 0 mends nothing. This takes no memory.
+    /// No packets yet, and images with at most this many fillers each; 0 mends nothing. This takes no memory.
     pub fn new(alloc: Global, most: u16) -> Self
         requires { most ≤ most_fillers }
         ensures stands { MendedStandFor result [] }

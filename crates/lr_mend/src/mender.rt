@@ -108,7 +108,7 @@ impl Model for Mender {
 }
 
 impl Mender {
-    /// No packets yet, and images that may have so many fillers; 0 mends nothing. This takes no memory.
+    /// No packets yet, and images with at most this many fillers each; 0 mends nothing. This takes no memory.
     pub fn new(alloc: Global, most: u16) -> Self
         requires { most ≤ most_fillers }
         ensures stands { MenderStandsFor result [] }

@@ -217,7 +217,7 @@ since_fillers filling (suc n) count ps =
 
 -- ---- how many bytes an image needs
 
--- its first body has the header of one whose lines aren't coded, and it needs so many bytes
+-- its first body has the header of one whose lines aren't coded, and it needs `need` bytes
 pub record HasNeed (body : List ℕ) (need : ℕ) : Type 0 where
   pub header : Header
   pub is_header : header_of (drop 10 body) ≡ Ok header

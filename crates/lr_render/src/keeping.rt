@@ -7,7 +7,7 @@ ghost use Rattle.lr_render.specs.Keeping.{CanCount, TakesStrip};
 
 use crate::done::DoneStrip;
 use lr_bits::{MissionFile, NoMemory, Pixels, TRANSPORT_HEADER_BYTES};
-use lr_image::{ImageFault, Layout, room_for};
+use lr_image::{ImageFault, Layout, most_pixels};
 use lr_rice::RiceFault;
 use std::alloc::Global;
 
@@ -81,8 +81,7 @@ fn append(
 {
     if kept.as_slice().is_empty() {
         let skipped = TRANSPORT_HEADER_BYTES + layout.header_bytes;
-        *kept = room_for(alloc, file, skipped, layout.shape)?;
-        kept.truncate(0);
+        *kept = Pixels::with_capacity(alloc, most_pixels(file, skipped, layout.shape))?;
     }
     kept.extend(pixels)
 }

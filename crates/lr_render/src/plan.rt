@@ -128,8 +128,8 @@ impl Plan {
     }
 
     /// Keeps what came of the oldest strip that was given and not yet kept. The first strip that has pixels takes the
-    /// memory for those of all strips (`lr_image::room_for`): for no more lines than the file can have. Where that is
-    /// refused the plan is as it was, and the strip is let go.
+    /// memory for those of all strips (`lr_image::most_pixels`): for no more lines than the file can have. Where that
+    /// is refused the plan is as it was, and the strip is let go.
     pub fn keep(&mut self, strip: DoneStrip) -> Result<(), NoMemory>
         requires given { self.old.kept < self.old.given }
         requires oldest { IsStripAt self.old self.old.kept strip }

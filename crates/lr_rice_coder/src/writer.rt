@@ -3,6 +3,7 @@
 ghost use Rattle.std.specs.Prelude.{◌≡◌, ◌<◌, ◌≤◌, ◌*◌, ◌^◌, ◌++◌, [], IfOk, OnOk};
 ghost use Rattle.lr_bits.specs.Bits.{number_bits, zeros_and_one};
 ghost use Rattle.lr_rice_coder.specs.Coded.{ArePaddedBits};
+ghost use Rattle.lr_rice_coder.specs.declared.writer.TheConstants.{WORD_BITS};
 
 use lr_bits::NoMemory;
 use std::alloc::Global;
@@ -24,12 +25,13 @@ pub(crate) struct BitWriter {
 impl Model for BitWriter {
     ghost use Rattle.std.specs.Prelude.{List, ℕ, ◌++◌, ◌<◌, ◌^◌};
     ghost use Rattle.lr_bits.specs.Bits.{bits_of, number_bits};
+    ghost use Rattle.lr_rice_coder.specs.declared.writer.TheConstants.{WORD_BITS};
 
     ghost Value = { List ℕ };
 
     ghost view = { λ w. bits_of w.bytes.items ++ number_bits w.count w.pending };
 
-    ghost invariant = { λ w. (w.count < 32) × (w.pending < 2 ^ w.count) };
+    ghost invariant = { λ w. (w.count < WORD_BITS) × (w.pending < 2 ^ w.count) };
 }
 
 impl BitWriter {
@@ -47,7 +49,7 @@ impl BitWriter {
     /// Writes a number in this many bits.
     #[inline(always)]
     pub(crate) fn number(&mut self, width: u32, number: u64) -> Result<(), NoMemory>
-        requires narrow { width ≤ 32 }
+        requires narrow { width ≤ WORD_BITS }
         requires fits { number < 2 ^ width }
         ensures { OnOk result (self.new ≡ self.old ++ number_bits width number) }
     {
@@ -72,9 +74,9 @@ impl BitWriter {
         ensures { OnOk result (self.new ≡ self.old ++ zeros_and_one zeros) }
     {
         let mut left = zeros;
-        while left >= 32 {
-            self.number(32, 0)?;
-            left -= 32;
+        while left >= WORD_BITS as u64 {
+            self.number(WORD_BITS, 0)?;
+            left -= WORD_BITS as u64;
         }
         self.number(left as u32 + 1, 1)
     }

@@ -16,6 +16,9 @@ use lr_gf::{Gf, System};
 /// How many bytes of a word may be wrong.
 const MOST_ERRORS: usize = 16;
 
+/// The terms of the polynomial whose roots tell the places of the errors.
+const TERMS: usize = MOST_ERRORS + 1;
+
 /// No codeword differs from the word in at most sixteen bytes.
 #[derive(Drop)]
 pub struct BeyondSixteen;
@@ -26,9 +29,9 @@ pub struct RsScratch {
     remainder: [Gf; CHECK_BYTES],
     syndromes: [Gf; CHECK_BYTES],
     system: System,
-    polynomial: [Gf; 17],
+    polynomial: [Gf; TERMS],
     places: [usize; WORD_BYTES],
-    errors: [Gf; 16],
+    errors: [Gf; MOST_ERRORS],
     corrected: [u8; WORD_BYTES],
 }
 
@@ -39,9 +42,9 @@ impl RsScratch {
             remainder: [Gf(0); CHECK_BYTES],
             syndromes: [Gf(0); CHECK_BYTES],
             system: System::new(),
-            polynomial: [Gf(0); 17],
+            polynomial: [Gf(0); TERMS],
             places: [0usize; WORD_BYTES],
-            errors: [Gf(0); 16],
+            errors: [Gf(0); MOST_ERRORS],
             corrected: [0u8; WORD_BYTES],
         }
     }
@@ -70,7 +73,10 @@ pub fn restore(word: &mut [u8; WORD_BYTES], scratch: &mut RsScratch) -> Result<u
     }
     syndromes_of(&scratch.remainder, &mut scratch.syndromes);
     fill_key_equation(&mut scratch.system, &scratch.syndromes);
-    if !scratch.system.kernel(16, 17, &mut scratch.polynomial) {
+    if !scratch
+        .system
+        .kernel(MOST_ERRORS, TERMS, &mut scratch.polynomial)
+    {
         return Err(BeyondSixteen);
     }
     let count = find_roots(&scratch.polynomial, &mut scratch.places);

@@ -63,19 +63,23 @@ module _ {A : Type 0} {D : Type 0} (disk : DiskOf D)
     outside_any_moment = λ told only. stays disk only_now d _ told (λ c image. still c (only c image));
     stands = λ told. tt;
     durable = λ told. tt;
-    way = λ told keeps. tt;
-    either_way = λ told keeps. inl keeps;
-    way_any_moment = λ told keeps only.
-        stays disk only_now d _ told
-        (λ c image. inl (subst (λ (b : List ℕ). IsWay b (kept_by shelf).way) (sym (only c image)) keeps));
-    bytes_any_moment = λ told keeps only.
-        stays disk only_now d _ told
-        (λ c image.
-        inl (subst (IsClosedAfter (take (last_gate (kept_by shelf)) (disk.contents d))) (sym (only c image))
-        (shut_last (disk.contents d) (kept_by shelf).way keeps)));
-    any_moment = λ capacity items s. stays disk only_now d _ s.told (unchanged capacity items s);
-    acknowledged = λ capacity items s. tt;
-    either = λ capacity items s. (inl s.on_disk.stands, unchanged capacity items s);
+    on_way = record {
+      way = λ told keeps. tt;
+      either = λ told keeps. inl keeps;
+      any_moment = λ told keeps only.
+          stays disk only_now d _ told
+          (λ c image. inl (subst (λ (b : List ℕ). IsWay b (kept_by shelf).way) (sym (only c image)) keeps));
+      bytes_any_moment = λ told keeps only.
+          stays disk only_now d _ told
+          (λ c image.
+          inl (subst (IsClosedAfter (take (last_gate (kept_by shelf)) (disk.contents d))) (sym (only c image))
+          (shut_last (disk.contents d) (kept_by shelf).way keeps)));
+    };
+    on_items = record {
+      any_moment = λ capacity items s. stays disk only_now d _ s.told (unchanged capacity items s);
+      acknowledged = λ capacity items s. tt;
+      either = λ capacity items s. (inl s.on_disk.stands, unchanged capacity items s);
+    };
   }
     where
       still : (c : List ℕ) → c ≡ disk.contents d
@@ -168,28 +172,32 @@ module _ {D : Type 0} (disk : DiskOf D) (item : Item) (is : IsItem item) (shelf 
         (λ n. take n (drop (last_gate (kept_by shelf)) (disk.contents d')) ≡ 1 ∷ (item_bytes item ++ 0 ∷ []))
         size (stands t ∙ ap (λ (l : List ℕ). 1 ∷ l) parts);
     durable = durable;
-    either_way = λ t keeps.
-        inr (
-          way_after (disk.contents d) (kept_by shelf).way keeps item is may (disk.contents d')
-              (done _ _ t (ready_way (disk.contents d) (kept_by shelf).way keeps item is may staged parts)),
-          fits,
-        );
-    way = λ t keeps.
-        subst (IsWay (disk.contents d')) (sym (ap (λ (k : KeptShelf). k.way) one))
-        (way_after (disk.contents d) (kept_by shelf).way keeps item is may (disk.contents d')
-        (done _ _ t (ready_way (disk.contents d) (kept_by shelf).way keeps item is may staged parts)));
-    way_any_moment = way_moments;
-    bytes_any_moment = bytes_moments;
-    any_moment = at_any_moment;
-    acknowledged = λ capacity items s. record {
-      told = told s.told;
-      kept = kept_after capacity items shelf (disk.contents d) item is may fits s.kept s.on_disk.stands after one;
-      on_disk = record {
-        stands = there capacity items s;
-        durable = durable s.told;
-      };
+    on_way = record {
+      way = λ t keeps.
+          subst (IsWay (disk.contents d')) (sym (ap (λ (k : KeptShelf). k.way) one))
+          (way_after (disk.contents d) (kept_by shelf).way keeps item is may (disk.contents d')
+          (done _ _ t (ready_way (disk.contents d) (kept_by shelf).way keeps item is may staged parts)));
+      either = λ t keeps.
+          inr (
+            way_after (disk.contents d) (kept_by shelf).way keeps item is may (disk.contents d')
+                (done _ _ t (ready_way (disk.contents d) (kept_by shelf).way keeps item is may staged parts)),
+            fits,
+          );
+      any_moment = way_moments;
+      bytes_any_moment = bytes_moments;
     };
-    either = λ capacity items s. (inr (there capacity items s), now_either capacity items s);
+    on_items = record {
+      any_moment = at_any_moment;
+      acknowledged = λ capacity items s. record {
+        told = told s.told;
+        kept = kept_after capacity items shelf (disk.contents d) item is may fits s.kept s.on_disk.stands after one;
+        on_disk = record {
+          stands = there capacity items s;
+          durable = durable s.told;
+        };
+      };
+      either = λ capacity items s. (inr (there capacity items s), now_either capacity items s);
+    };
   }
     where
       there : (capacity : ℕ) (items : List Item) → IsSettled disk capacity items shelf d
@@ -222,20 +230,24 @@ module _ {D : Type 0} (disk : DiskOf D) (item : Item) (is : IsItem item) (shelf 
         place (outside_moments t only);
     stands = λ t. tt;
     durable = λ t. tt;
-    way = λ t keeps. tt;
-    either_way = λ t keeps.
-        way_either (disk.contents d) (kept_by shelf).way keeps item is may fits (disk.contents d')
-        (left _ _ t (ready_way (disk.contents d) (kept_by shelf).way keeps item is may staged parts));
-    way_any_moment = way_moments;
-    bytes_any_moment = bytes_moments;
-    any_moment = at_any_moment;
-    acknowledged = λ capacity items s. tt;
-    either = λ capacity items s. (
-      either_one capacity items shelf (disk.contents d) item is may fits s.kept s.on_disk.stands (disk.contents d')
-          (
-          left _ _ s.told
-          (ready_there capacity items shelf (disk.contents d) item is may fits s.kept s.on_disk.stands staged parts)
-          ),
-      now_either capacity items s,
-    );
+    on_way = record {
+      way = λ t keeps. tt;
+      either = λ t keeps.
+          way_either (disk.contents d) (kept_by shelf).way keeps item is may fits (disk.contents d')
+          (left _ _ t (ready_way (disk.contents d) (kept_by shelf).way keeps item is may staged parts));
+      any_moment = way_moments;
+      bytes_any_moment = bytes_moments;
+    };
+    on_items = record {
+      any_moment = at_any_moment;
+      acknowledged = λ capacity items s. tt;
+      either = λ capacity items s. (
+        either_one capacity items shelf (disk.contents d) item is may fits s.kept s.on_disk.stands (disk.contents d')
+            (
+            left _ _ s.told
+            (ready_there capacity items shelf (disk.contents d) item is may fits s.kept s.on_disk.stands staged parts)
+            ),
+        now_either capacity items s,
+      );
+    };
   }

@@ -143,7 +143,7 @@ module _ {D A : Type 0} (disk : DiskOf D)
         → EachImageSince disk d d' (StandsWithEither initial done placed)
     moments_on (OfItems capacity items) s =
         weaker disk.moment disk.left_since d d' _ _ (λ c either. either_items capacity items done placed c either)
-        (adds.any_moment capacity (with_files items done) (to_items disk done shelf d capacity items s))
+        (adds.on_items.any_moment capacity (with_files items done) (to_items disk done shelf d capacity items s))
     moments_on (OfWay way old) s =
         either_moments disk leaves_contents counts_now way old done placed shelf shelf' d d' s.told s.kept.way
         s.on_disk.stands s.on_disk.durable result adds
@@ -152,7 +152,8 @@ module _ {D A : Type 0} (disk : DiskOf D)
         → StandsWithEither initial done placed c
     left_on (OfItems capacity items) s c image =
         either_items capacity items done placed c
-        ((adds.either capacity (with_files items done) (to_items disk done shelf d capacity items s)).1 c image)
+        ((adds.on_items.either capacity (with_files items done)
+        (to_items disk done shelf d capacity items s)).1 c image)
     left_on (OfWay way old) s c image =
         either_left disk leaves_contents counts_now way old done placed shelf shelf' d d' s.told s.kept.way
         s.on_disk.stands s.on_disk.durable result adds c image
@@ -161,7 +162,7 @@ module _ {D A : Type 0} (disk : DiskOf D)
         → StandsWithEither initial done placed (disk.contents d')
     now_on (OfItems capacity items) s =
         either_items capacity items done placed (disk.contents d')
-        (adds.either capacity (with_files items done) (to_items disk done shelf d capacity items s)).0
+        (adds.on_items.either capacity (with_files items done) (to_items disk done shelf d capacity items s)).0
     now_on (OfWay way old) s =
         either_now disk leaves_contents counts_now way old done placed shelf shelf' d d' s.told s.kept.way
         s.on_disk.stands s.on_disk.durable result adds
@@ -174,7 +175,7 @@ module _ {D A : Type 0} (disk : DiskOf D)
       of_items disk (done ++ placed ∷ []) shelf' d' capacity items
       (subst (λ (l : List Item). IsSettled disk capacity l shelf' d') (sym (with_files-append items done
       (placed ∷ [])))
-      (adds.acknowledged capacity (with_files items done) (to_items disk done shelf d capacity items s)))
+      (adds.on_items.acknowledged capacity (with_files items done) (to_items disk done shelf d capacity items s)))
   settled_on answer adds (OfWay way old) s = record {
     told = adds.calls.told s.told;
     kept = record {

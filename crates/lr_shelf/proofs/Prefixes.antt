@@ -183,8 +183,8 @@ module _ {D : Type 0} (disk : DiskOf D)
       (adds : Adds disk (item_for placed) (shelf_on shelf d) (shelf_on shelf' d') result) where
     pub either_moments : EachImageSince disk d d' (HasEitherAfter way old files placed)
     either_moments =
-        let ways = adds.way_any_moment told keeps only in
-        let bytes = adds.bytes_any_moment told keeps only in
+        let ways = adds.on_way.any_moment told keeps only in
+        let bytes = adds.on_way.bytes_any_moment told keeps only in
         record {
           later = ways.later;
           each = λ c left. either_there c (ways.each c left) (bytes.each c left);
@@ -210,7 +210,7 @@ module _ {D : Type 0} (disk : DiskOf D)
     where
       grown : IsWay (disk.contents d') (way_with (head_of_item (item_for placed)) (way_with_files files way))
       grown = subst (λ (w : Way). IsWay (disk.contents d') (way_with (head_of_item (item_for placed)) w)) way_is
-          (subst (λ (k : KeptShelf). IsWay (disk.contents d') k.way) adds.kept (adds.way told keeps))
+          (subst (λ (k : KeptShelf). IsWay (disk.contents d') k.way) adds.kept (adds.on_way.way told keeps))
 
       not_there : HasFilesAfter way old files (disk.contents d')
           → HasFilesAfter way old (files ++ placed ∷ []) (disk.contents d')

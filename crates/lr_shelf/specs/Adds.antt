@@ -25,6 +25,31 @@ abbrev pub last_gate : KeptShelf → ℕ
 last_gate kept = kept.way.end - 1
 
 module _ {D : Type 0} (disk : DiskOf D) where
+  -- over a disk whose way the shelf keeps, whatever its records hold and wherever it ends: what is there at the return,
+  -- and what a stop at any moment leaves, as ways and as bytes
+  pub record AddsOnWay {A : Type 0} (item : Item) (old new : ShelfOn D) (result : Result A ShelfError) : Type 0 where
+    pub way : disk.tells old.disk → KeepsWay (disk.contents old.disk) old.shelf
+        → OnOk result (KeepsWay (disk.contents new.disk) new.shelf)
+    pub either : disk.tells old.disk → KeepsWay (disk.contents old.disk) old.shelf
+        → HasEitherWay (kept_on old).way item (disk.contents new.disk)
+    pub any_moment : disk.tells old.disk → KeepsWay (disk.contents old.disk) old.shelf
+        → NothingPending disk old.disk
+        → EachImageSince disk old.disk new.disk (HasEitherWay (kept_on old).way item)
+    pub bytes_any_moment : disk.tells old.disk → KeepsWay (disk.contents old.disk) old.shelf
+        → NothingPending disk old.disk
+        → EachImageSince disk old.disk new.disk
+        (WithOrWithout (take (last_gate (kept_on old)) (disk.contents old.disk)) (item_bytes item))
+
+  -- over a shelf of some items: what a stop at any moment leaves, and what is there at the return
+  pub record AddsOnItems {A : Type 0} (item : Item) (old new : ShelfOn D) (result : Result A ShelfError) : Type 0 where
+    pub any_moment : (capacity : ℕ) (items : List Item) → IsSettled disk capacity items old.shelf old.disk
+        → EachImageSince disk old.disk new.disk (StandsForEither capacity items item)
+    pub acknowledged : (capacity : ℕ) (items : List Item) → IsSettled disk capacity items old.shelf old.disk
+        → OnOk result (IsSettled disk capacity (items ++ item ∷ []) new.shelf new.disk)
+    pub either : (capacity : ℕ) (items : List Item) → IsSettled disk capacity items old.shelf old.disk
+        → StandsForEither capacity items item (disk.contents new.disk)
+        × ((c : List ℕ) → disk.may_leave new.disk c → StandsForEither capacity items item c)
+
   pub record Adds {A : Type 0} (item : Item) (old new : ShelfOn D) (result : Result A ShelfError) : Type 0 where
     pub calls : Calls disk old.disk new.disk result
     -- what a refusal leaves, and what the shelf keeps after Ok
@@ -45,24 +70,5 @@ module _ {D : Type 0} (disk : DiskOf D) where
         → OnOk result (take (2 + extent_of (head_of_item item))
         (drop (last_gate (kept_on old)) (disk.contents new.disk)) ≡ 1 ∷ (item_bytes item ++ 0 ∷ []))
     pub durable : disk.tells old.disk → OnOk result (NothingPending disk new.disk)
-    -- over a disk whose way the shelf keeps, whatever its records hold and wherever it ends: what is there at the
-    -- return, and what a stop at any moment leaves, as ways and as bytes
-    pub way : disk.tells old.disk → KeepsWay (disk.contents old.disk) old.shelf
-        → OnOk result (KeepsWay (disk.contents new.disk) new.shelf)
-    pub either_way : disk.tells old.disk → KeepsWay (disk.contents old.disk) old.shelf
-        → HasEitherWay (kept_on old).way item (disk.contents new.disk)
-    pub way_any_moment : disk.tells old.disk → KeepsWay (disk.contents old.disk) old.shelf
-        → NothingPending disk old.disk
-        → EachImageSince disk old.disk new.disk (HasEitherWay (kept_on old).way item)
-    pub bytes_any_moment : disk.tells old.disk → KeepsWay (disk.contents old.disk) old.shelf
-        → NothingPending disk old.disk
-        → EachImageSince disk old.disk new.disk
-        (WithOrWithout (take (last_gate (kept_on old)) (disk.contents old.disk)) (item_bytes item))
-    -- over a shelf of these items: what a stop at any moment leaves, and what is there at the return
-    pub any_moment : (capacity : ℕ) (items : List Item) → IsSettled disk capacity items old.shelf old.disk
-        → EachImageSince disk old.disk new.disk (StandsForEither capacity items item)
-    pub acknowledged : (capacity : ℕ) (items : List Item) → IsSettled disk capacity items old.shelf old.disk
-        → OnOk result (IsSettled disk capacity (items ++ item ∷ []) new.shelf new.disk)
-    pub either : (capacity : ℕ) (items : List Item) → IsSettled disk capacity items old.shelf old.disk
-        → StandsForEither capacity items item (disk.contents new.disk)
-        × ((c : List ℕ) → disk.may_leave new.disk c → StandsForEither capacity items item c)
+    pub on_way : AddsOnWay item old new result
+    pub on_items : AddsOnItems item old new result

@@ -1,8 +1,7 @@
 -- The header of a shelf file, of version 1 or 2.
-use Rattle.std.specs.Prelude.{◌≡◌, ◌⊎◌, ◌≤◌, ◌+◌, ℕ, List, ◌∷◌, ◌++◌, length, take, codes}
+use Rattle.std.specs.Prelude.{◌≡◌, ◌⊎◌, ◌≤◌, ◌+◌, ◌^◌, ℕ, List, ◌∷◌, ◌++◌, length, take, codes}
 use Rattle.byteorder.specs.Endian.{big_bytes}
 use Rattle.lr_bits.specs.Crc.{crc_of}
-use Rattle.lr_shelf_format.specs.declared.header.TheConstants.{LEAST_CAPACITY, MOST_CAPACITY}
 
 -- the bytes 1 to 16: the name, the version, and the capacity
 abbrev pub named_capacity : ℕ → ℕ → List ℕ
@@ -17,10 +16,17 @@ header_bytes version capacity =
 abbrev pub first_gate : ℕ
 first_gate = 19
 
+-- the capacity of a shelf of no items, the least one, and the greatest one, in bytes
+abbrev pub least_capacity : ℕ
+least_capacity = first_gate + 1
+
+abbrev pub most_capacity : ℕ
+most_capacity = 2 ^ 40
+
 -- a shelf may have this capacity
 pub record IsCapacity (capacity : ℕ) : Type 0 where
-  pub least : LEAST_CAPACITY ≤ capacity
-  pub most : capacity ≤ MOST_CAPACITY
+  pub least : least_capacity ≤ capacity
+  pub most : capacity ≤ most_capacity
 
 -- A header for this capacity stands at 0, of version 1 or 2, with the first gate, whatever that is.
 pub record HasHeader (bytes : List ℕ) (capacity : ℕ) : Type 0 where

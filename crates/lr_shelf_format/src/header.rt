@@ -27,14 +27,14 @@ const COMPLETE: u8 = 0x5A;
 const VERSION: u8 = 2;
 
 /// The header of a complete shelf of this capacity, of version 2, and the closed gate after it.
-pub fn header_of(capacity: u64) -> [u8; 20]
+pub fn header_of(capacity: u64) -> [u8; HEADER_BYTES]
     ensures { result ≡ header_bytes 2 capacity ++ 0 ∷ [] }
 {
     header_of_version(VERSION, capacity)
 }
 
 /// The header of this version, and the closed gate after it.
-pub(crate) fn header_of_version(version: u8, capacity: u64) -> [u8; 20]
+pub(crate) fn header_of_version(version: u8, capacity: u64) -> [u8; HEADER_BYTES]
     ensures { result ≡ header_bytes version capacity ++ 0 ∷ [] }
 {
     let mut header = [0; HEADER_BYTES];
@@ -48,7 +48,7 @@ pub(crate) fn header_of_version(version: u8, capacity: u64) -> [u8; 20]
 }
 
 /// The capacity in a header of version 1 or 2. `None` exactly where none stands in these bytes.
-pub fn read_header(bytes: &[u8; 20]) -> Option<u64>
+pub fn read_header(bytes: &[u8; HEADER_BYTES]) -> Option<u64>
     ensures found { IfSome result (HasHeader bytes.now) }
     ensures none { IfNone result ((capacity : ℕ) → HasHeader bytes.now capacity → ⊥) }
 {

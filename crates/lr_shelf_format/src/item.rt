@@ -1,6 +1,7 @@
 //! Items: what the bytes after a gate begin.
 ghost use Rattle.std.specs.Prelude.{◌≡◌, ◌∷◌, ◌++◌, [], IfSome, IfNone, slice_index};
 ghost use Rattle.lr_shelf_format.specs.Items.{Begins, discard_bytes};
+ghost use Rattle.lr_shelf_format.specs.declared.item.TheConstants.{ADD, DISCARD};
 
 use crate::record::{
     ADD_FRONT_BYTES, HEAD_BYTES, OLD_FRONT_BYTES, RecordHead, extent_after, read_fields,
@@ -48,7 +49,7 @@ impl ItemHead {
 }
 
 /// The bytes of a Discard item, and the closed gate after it.
-pub fn discard_of(number: u64) -> [u8; 12]
+pub fn discard_of(number: u64) -> [u8; ITEM_BYTES]
     ensures { result ≡ discard_bytes number ++ 0 ∷ [] }
 {
     let mut item = [0; ITEM_BYTES];
@@ -61,7 +62,7 @@ pub fn discard_of(number: u64) -> [u8; 12]
 
 /// The item that these bytes begin. `None` exactly where they begin none: a field is out of its range, or a Discard
 /// has the wrong checksum.
-pub fn read_item(bytes: &[u8; 12]) -> Option<ItemHead>
+pub fn read_item(bytes: &[u8; ITEM_BYTES]) -> Option<ItemHead>
     ensures found { IfSome result (Begins bytes.now) }
     ensures none { IfNone result ((head : ItemHead) → Begins bytes.now head → ⊥) }
 {
@@ -72,9 +73,9 @@ pub fn read_item(bytes: &[u8; 12]) -> Option<ItemHead>
     }
 }
 
-fn read_old(bytes: &[u8; 12]) -> Option<ItemHead>
-    requires add { slice_index bytes.now 0 ≡ 0x80 → ⊥ }
-    requires discard { slice_index bytes.now 0 ≡ 0x81 → ⊥ }
+fn read_old(bytes: &[u8; ITEM_BYTES]) -> Option<ItemHead>
+    requires add { slice_index bytes.now 0 ≡ ADD → ⊥ }
+    requires discard { slice_index bytes.now 0 ≡ DISCARD → ⊥ }
     ensures found { IfSome result (Begins bytes.now) }
     ensures none { IfNone result ((head : ItemHead) → Begins bytes.now head → ⊥) }
 {
@@ -86,8 +87,8 @@ fn read_old(bytes: &[u8; 12]) -> Option<ItemHead>
     }
 }
 
-fn read_add(bytes: &[u8; 12]) -> Option<ItemHead>
-    requires { slice_index bytes.now 0 ≡ 0x80 }
+fn read_add(bytes: &[u8; ITEM_BYTES]) -> Option<ItemHead>
+    requires { slice_index bytes.now 0 ≡ ADD }
     ensures found { IfSome result (Begins bytes.now) }
     ensures none { IfNone result ((head : ItemHead) → Begins bytes.now head → ⊥) }
 {
@@ -99,8 +100,8 @@ fn read_add(bytes: &[u8; 12]) -> Option<ItemHead>
     }
 }
 
-fn read_discard(bytes: &[u8; 12]) -> Option<ItemHead>
-    requires { slice_index bytes.now 0 ≡ 0x81 }
+fn read_discard(bytes: &[u8; ITEM_BYTES]) -> Option<ItemHead>
+    requires { slice_index bytes.now 0 ≡ DISCARD }
     ensures found { IfSome result (Begins bytes.now) }
     ensures none { IfNone result ((head : ItemHead) → Begins bytes.now head → ⊥) }
 {

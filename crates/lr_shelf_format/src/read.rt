@@ -27,6 +27,7 @@ ghost use Rattle.lr_shelf_format.specs.Items.{
   stored_checksum,
 };
 ghost use Rattle.lr_shelf_format.specs.Record.{IsHead, file_of_body, numbers_in, origin_of};
+ghost use Rattle.lr_shelf_format.specs.declared.record.TheConstants.{ADD_FRONT_BYTES};
 
 use crate::item::{ITEM_BYTES, ItemHead, read_item};
 use crate::record::{
@@ -77,7 +78,7 @@ fn has_form(bytes: &[u8], head: ItemHead) -> bool
 
 /// Whether such a body stands after this many bytes.
 fn has_body(bytes: &[u8], head: RecordHead, front: usize) -> bool
-    requires { front ≤ 36 }
+    requires { front ≤ ADD_FRONT_BYTES }
     ensures { IsTrue result ↔ HasBody head front bytes.now }
 {
     if bytes.len() as u64 != extent_after(front, head.packets, head.bytes) {
@@ -144,7 +145,7 @@ pub fn stored_in(alloc: Global, bytes: &[u8], head: ItemHead) -> Result<Stored, 
 
 /// The origin in an Add item.
 fn origin_in(bytes: &[u8]) -> Origin
-    requires { 36 ≤ length bytes.now }
+    requires { ADD_FRONT_BYTES ≤ length bytes.now }
     ensures { result ≡ origin_of (drop 12 bytes.now) }
 {
     Origin {
@@ -161,7 +162,7 @@ fn file_in(
     head: RecordHead,
     front: usize,
 ) -> Result<MissionFile, NoMemory>
-    requires front { front ≤ 36 }
+    requires front { front ≤ ADD_FRONT_BYTES }
     requires head { IsHead head }
     requires body { HasBody head front bytes.now }
     ensures { IfOk result (λ file. file ≡ file_of_body head (drop front bytes.now)) }

@@ -5,6 +5,8 @@ ghost use Rattle.byteorder.specs.Endian.{big_bytes};
 ghost use Rattle.lr_bits.specs.Crc.{crc_of};
 ghost use Rattle.lr_bits.specs.File.{IsFile};
 ghost use Rattle.lr_shelf_format.specs.Items.{IsOrigin, add_bytes};
+ghost use Rattle.lr_shelf_format.specs.declared.item.TheConstants.{ADD};
+ghost use Rattle.lr_shelf_format.specs.declared.record.TheConstants.{ADD_FRONT_BYTES};
 ghost use Rattle.lr_shelf_format.specs.Record.{
   IsHead,
   StartsWith,
@@ -62,7 +64,7 @@ pub fn extent(packets: u32, bytes: u32) -> u64
 
 /// How many bytes a record has of which this many stand before the lengths.
 pub(crate) fn extent_after(front: usize, packets: u32, bytes: u32) -> u64
-    requires { front ≤ 36 }
+    requires { front ≤ ADD_FRONT_BYTES }
     ensures { result ≡ front + 2 * packets + bytes + 2 }
 {
     let lengths = LENGTH_BYTES as u64 * u64::from(packets);
@@ -70,7 +72,7 @@ pub(crate) fn extent_after(front: usize, packets: u32, bytes: u32) -> u64
 }
 
 /// The fields in these bytes. `None` exactly where one of them is out of its range.
-pub(crate) fn read_fields(bytes: &[u8; 11]) -> Option<RecordHead>
+pub(crate) fn read_fields(bytes: &[u8; HEAD_BYTES]) -> Option<RecordHead>
     ensures { SomeIff result (IsHead (head_of bytes.now)) (head_of bytes.now) }
 {
     let head = RecordHead {
@@ -125,7 +127,7 @@ fn put_record(file: &MissionFile, origin: Origin, out: &mut Bytes) -> Result<(),
 /// Appends the bytes of an Add item before the lengths.
 fn put_front(file: &MissionFile, origin: Origin, out: &mut Bytes) -> Result<(), NoMemory>
     ensures ok { OnOk result
-        (out.new ≡ out.old ++ (0x80 ∷ (bytes_of_head (head_of_file file.now) ++ origin_bytes origin))) }
+        (out.new ≡ out.old ++ (ADD ∷ (bytes_of_head (head_of_file file.now) ++ origin_bytes origin))) }
     ensures err { OnErr result (StartsWith out.old out.new) }
     ensures file { IsFile file.now }
 {
@@ -136,7 +138,7 @@ fn put_front(file: &MissionFile, origin: Origin, out: &mut Bytes) -> Result<(), 
 }
 
 /// The bytes of the file's fields.
-pub(crate) fn fields_of_file(file: &MissionFile) -> [u8; 11]
+pub(crate) fn fields_of_file(file: &MissionFile) -> [u8; HEAD_BYTES]
     ensures value { result ≡ bytes_of_head (head_of_file file.now) }
     ensures file { IsFile file.now }
 {
@@ -149,7 +151,7 @@ pub(crate) fn fields_of_file(file: &MissionFile) -> [u8; 11]
 }
 
 /// The bytes of these fields.
-fn fields(vc: u8, apid: u16, packets: u32, bytes: u32) -> [u8; 11]
+fn fields(vc: u8, apid: u16, packets: u32, bytes: u32) -> [u8; HEAD_BYTES]
     ensures { result ≡ vc ∷ (big_bytes 2 apid ++ (big_bytes 4 packets ++ big_bytes 4 bytes)) }
 {
     let mut fields = [vc; HEAD_BYTES];

@@ -42,26 +42,23 @@ module _ {S D O : Type 0} {world : World S D O} {mend : ℕ} {input : Input} {w 
   run_within {limit} {cause} run = record {
     causes = run.causes;
     first = run.first;
-    told_by_disk = run.told_by_disk;
-    untold_by_disk = run.untold_by_disk;
-    told_by_out = run.told_by_out;
-    untold_by_out = run.untold_by_out;
+    tell = run.tell;
     bytes = run.bytes;
     read = run.read;
-    onto_shelf = run.onto_shelf;
-    onto_way = run.onto_way;
-    keeps_up = λ initial told stands only. fewer_wait (run.keeps_up initial told stands only);
-    refused = run.refused;
-    broken = run.broken;
-    full = run.full;
-    nothing_fits = run.nothing_fits;
-    room = run.room;
-    only_read = run.only_read;
-    silent = run.silent;
-    unasked = run.unasked;
-    ended = run.ended;
-    outside = run.outside;
-    outside_any_moment = run.outside_any_moment;
+    onto = record {
+      shelf = run.onto.shelf;
+      way = run.onto.way;
+      keeps_up = λ initial told stands only. fewer_wait (run.onto.keeps_up initial told stands only);
+    };
+    lines = record { ended = run.lines.ended; stopped = run.lines.stopped };
+    wants = run.wants;
+    capacity = record {
+      full = run.capacity.full;
+      nothing_fits = run.capacity.nothing_fits;
+      room = run.capacity.room;
+    };
+    alone = record { only_read = run.alone.only_read; silent = run.alone.silent; unasked = run.alone.unasked };
+    writes = run.writes;
   }
 
 -- ---- what is run on the caller's thread alone, whatever W the words give

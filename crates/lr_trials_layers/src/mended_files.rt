@@ -204,7 +204,7 @@ fn example(alloc: Global) -> Result<Option<MissionFile>, NoMemory> {
     Ok(MissionFile::build(13, 313, lengths, bytes))
 }
 
-/// Whether the file above with fillers at these places has these bytes, this first body and so many fillers.
+/// Whether the file above with fillers at these places has these bytes, this first body and this number of fillers.
 fn is_marked(
     alloc: Global,
     places: &[u32],
@@ -248,7 +248,7 @@ fn a_mark_is_one_record_more(rt: HostRuntime) -> Result<(), Fail> {
     Ok(())
 }
 
-/// A first body of so many bytes: a header of an image of 1,000 columns and 100 lines, and the front of its pixels.
+/// A first body of this length: a header of an image of 1,000 columns and 100 lines, and the front of its pixels.
 fn long_first(alloc: Global, length: usize) -> Result<Bytes, NoMemory> {
     let mut body = Bytes::new(alloc);
     body.extend(&IMAGE[..30])?;
@@ -279,8 +279,8 @@ fn push_one(
     append(mended.push(&packet)?, found)
 }
 
-/// How many bytes the first body of the file has, where that of its first packet has so many, and its second packet is
-/// lost. 0: no file comes.
+/// How many bytes the first body of the file has, where that of its first packet has this length, and its second packet
+/// is lost. 0: no file comes.
 fn marked_first(alloc: Global, length: usize) -> Result<usize, NoMemory> {
     let first = long_first(alloc, length)?;
     let mut mended = MendedFiles::new(alloc, 16);

@@ -222,7 +222,7 @@ static ENDS: [Case; 5] = [
     ),
 ];
 
-/// An image has at most so many fillers.
+/// An image gets no more fillers than it may have.
 static FEW: [Case; 4] = [
     // Two of three are used up, and the next gap of two is too wide; the image is closed, and its later gap stays.
     Case(

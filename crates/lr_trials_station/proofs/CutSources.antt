@@ -132,7 +132,7 @@ module _ {D O : Type 0} (disk : DiskOf D) (out : SinkOf O) (line : LineCode) (me
       ++ (shelved_lines (length way.entries)
       (noted_of_outcomes mend (take count (outcomes_of_bytes (Symbols line) first))) ++ text))
   lines_there =
-      let keeps = run.keeps_up (OfWay way (disk.contents d)) told (begun_way way (disk.contents d) is_way)
+      let keeps = run.onto.keeps_up (OfWay way (disk.contents d)) told (begun_way way (disk.contents d) is_way)
       (λ none. only) in
       ⊎_elim (λ none. absurd (omega (arith, past, fresh, ap bytes_moved none.1)))
       (λ last.

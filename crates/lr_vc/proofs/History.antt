@@ -233,7 +233,7 @@ packets_in-stay history f zones long x h =
     ∙ packets_ending-stay fs (length history, f) (zones_of_channel c history zones) long c x.0 (λ e. omega arith))
     (λ other. ap (λ cs. flat_map F (runs_of cs)) (channel_frames-other c history f other))
     (cases_eq f.vc c) in
-    ap (λ ps. cond (eqb c 63) [] ps) same
+    ap (λ ps. cond (eqb c FILL_CHANNEL) [] ps) same
 
 -- one frame more adds the packets that end in it
 pub packets_of-more : (history : List Fields) (f : Fields) → AreChannelFrames (history ++ f ∷ []) →

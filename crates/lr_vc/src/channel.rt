@@ -34,7 +34,7 @@ fn is_next(last: Option<u32>, counter: u32) -> bool
 
 /// What a zone's pointer says of the first packet that starts in the zone.
 #[derive(Clone, Copy)]
-pub enum ZoneStart {
+pub(crate) enum ZoneStart {
     /// It starts at this place, below 884.
     At(usize),
     /// None starts, since a packet covers the zone to its end.
@@ -193,7 +193,7 @@ fn next_open(
 
 /// What is kept of one channel: the counter of its last frame, and the bytes so far of its open packet.
 #[derive(Drop)]
-pub struct Channel {
+pub(crate) struct Channel {
     counter: Option<u32>,
     open_packet: Option<Bytes>,
 }
@@ -208,7 +208,7 @@ impl Model for Channel {
 
 impl Channel {
     /// A channel of which no frame came.
-    pub fn new() -> Self
+    pub(crate) fn new() -> Self
         ensures { result ≡ nothing_kept }
     {
         Channel {
@@ -234,7 +234,7 @@ impl Channel {
     }
 
     /// Appends the packets of this channel that end in this frame, its next one.
-    pub fn push(
+    pub(crate) fn push(
         &mut self,
         alloc: Global,
         frame: &TransferFrame,

@@ -49,7 +49,7 @@ fn byte_across(so_far: &[u8], zone: &[u8; ZONE_BYTES], place: usize) -> u8
 }
 
 /// Where an open packet ends, counted from its start, with a zone after its bytes so far.
-pub fn end_across(so_far: &[u8], zone: &[u8; ZONE_BYTES]) -> usize
+pub(crate) fn end_across(so_far: &[u8], zone: &[u8; ZONE_BYTES]) -> usize
     ensures end { result ≡ packet_end (so_far.now ++ zone.now) 0 }
     ensures fits { result ≤ 65542 }
 {
@@ -59,7 +59,7 @@ pub fn end_across(so_far: &[u8], zone: &[u8; ZONE_BYTES]) -> usize
 }
 
 /// The packet that these bytes are.
-pub fn whole(vc: u8, bytes: Bytes) -> RawPacket
+pub(crate) fn whole(vc: u8, bytes: Bytes) -> RawPacket
     requires { IsPacket (record { vc = vc; bytes = bytes }) }
     ensures { result ≡ record { vc = vc; bytes = bytes } }
 {
@@ -68,7 +68,7 @@ pub fn whole(vc: u8, bytes: Bytes) -> RawPacket
 
 /// Appends the packets that lie in the zone, from the start `first` on. The result is the start after them, whose
 /// packet isn't all there, or the zone's end.
-pub fn push_inside(
+pub(crate) fn push_inside(
     alloc: Global,
     vc: u8,
     zone: &[u8; ZONE_BYTES],

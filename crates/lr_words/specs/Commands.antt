@@ -4,7 +4,7 @@ use Rattle.std.specs.Prelude.{Some, None, IsSome, if◌then◌else◌, option_ma
 use Rattle.clap.specs.Words.{Text}
 use Rattle.lr_bits.specs.Sizes.{most_u64}
 use Rattle.lr_conv.specs.declared.line.LineCode.{LineCode}
-use Rattle.lr_shelf_format.specs.declared.header.TheConstants.{LEAST_CAPACITY, MOST_CAPACITY}
+use Rattle.lr_shelf_format.specs.Header.{least_capacity, most_capacity}
 use Rattle.lr_shelf_format.specs.Header.{IsCapacity}
 use Rattle.lr_forms.specs.declared.forms.Input.{Input}
 use Rattle.lr_forms.specs.declared.forms.TheConstants.{MOST_WORKERS}
@@ -74,7 +74,7 @@ intake_given action value =
 -- The command of words that look like this, where each argument has this value.
 abbrev pub given_by : Shape → (Text → Option Text) → Option Command
 given_by Capacity value =
-    option_map (λ n. Init n) (required_number value (codes "capacity") LEAST_CAPACITY MOST_CAPACITY)
+    option_map (λ n. Init n) (required_number value (codes "capacity") least_capacity most_capacity)
 given_by (Nothing action) value = Some (OnShelf action)
 given_by (Number action) value =
     option_map (λ n. OnFile action n) (required_number value (codes "number") 0 most_u64)
@@ -166,7 +166,7 @@ OnlyWritersMayWrite = (words : List Text) → writes_shelf words ≡ false
 abbrev pub IsWorkerCount : ℕ → Type 0
 IsWorkerCount workers = (1 ≤ workers) × (workers ≤ MOST_WORKERS)
 
--- so many fillers may an image have
+-- how many fillers an image may have at most
 abbrev pub MayHaveFillers : IntakeAction → Type 0
 MayHaveFillers Decode = Unit {0}
 MayHaveFillers (Receive mend) = mend ≤ MOST_FILLERS

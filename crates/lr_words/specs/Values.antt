@@ -1,10 +1,10 @@
 -- The values of the options that several commands have, and what stands where an option isn't given.
-use Rattle.std.specs.Prelude.{ℕ, Bool, true, false, Option, Some, None, codes, if◌then◌else◌}
+use Rattle.std.specs.Prelude.{◌^◌, ℕ, Bool, true, false, Option, Some, None, codes, if◌then◌else◌}
 use Rattle.std.specs.Prelude.{option_map, option_and_then}
 use Rattle.std.specs.Str.{bytes_eq}
 use Rattle.clap.specs.Words.{Text}
 use Rattle.lr_conv.specs.declared.line.LineCode.{LineCode}
-use Rattle.lr_forms.specs.declared.forms.TheConstants.{MOST_BYTES, MOST_WORKERS}
+use Rattle.lr_forms.specs.declared.forms.TheConstants.{MOST_WORKERS}
 use Rattle.lr_forms.specs.declared.forms.Input.{Input}
 use Rattle.lr_forms.specs.declared.forms.Input.TheVariants.{Symbols, Units}
 use Rattle.lr_forms.specs.declared.forms.UnitForm.TheVariants.{Blocks, Frames}
@@ -61,9 +61,13 @@ line_code_given line g2 =
     option_and_then (λ marks. option_map (λ inverted. record { marks = marks; inverted = inverted })
     (inverted_of g2)) (marks_given line)
 
+-- the greatest number of `--symbols`, which is also what stands where the option isn't given
+abbrev pub most_symbols : ℕ
+most_symbols = 2 ^ 40
+
 -- `--symbols`: the most bytes that are taken
 abbrev pub most_of : Option Text → Option ℕ
-most_of = number_or 0 MOST_BYTES MOST_BYTES
+most_of = number_or 0 most_symbols most_symbols
 
 -- `--workers`: how many work on windows
 abbrev pub workers_given : Option Text → Option ℕ

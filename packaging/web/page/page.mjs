@@ -6,7 +6,7 @@ import { HEADER_BYTES, isShelf } from './shelf.mjs';
 import { View } from './view.mjs';
 
 const SAMPLE_WRONG = 8; // wrong bytes in each word of the sample
-const MOST_FILLERS = 64; // packets of an image that others may stand in for
+const FILLERS_OF_IMAGE = 64; // packets of an image that others may stand in for
 const OLD_BROWSER =
   "This browser can't run the receiver: it needs memory of 64 bits, as Chrome or Edge 133, or Firefox 134, have it.";
 
@@ -145,7 +145,7 @@ class Page {
 
   /** @param {import('./forms.mjs').Found} how */
   receive(how) {
-    const found = { ...how, mend: at('mend').checked ? MOST_FILLERS : 0 };
+    const found = { ...how, mend: at('mend').checked ? FILLERS_OF_IMAGE : 0 };
     const { port1, port2 } = new MessageChannel();
     this.keeper.postMessage({ kind: 'keep', port: port1 }, [port1]);
     const receiver = this.worker('lr_live');

@@ -56,6 +56,26 @@ function inputOf(file, form, tell) {
   });
 }
 
+/** Where a reception goes: a shelf whose changes somebody hears, and the lines that are put. */
+export class Reception {
+  last = ''; // line that was put
+  err = '';
+
+  /** @param {(change: Change) => void} keep */
+  constructor(keep) {
+    this.shelf = new ToldShelf(keep);
+    const lines = lineReader((line) => {
+      this.last = line;
+      if (line.startsWith('shelved ')) keep({ kind: 'shelved' });
+    });
+    /** @param {number} output @param {Uint8Array} bytes */
+    this.put = (output, bytes) => {
+      if (output === 1) lines(bytes);
+      else this.err += new TextDecoder().decode(bytes);
+    };
+  }
+}
+
 /**
  * Receives a recording onto a new shelf.
  * @param {Station} station
@@ -65,24 +85,14 @@ function inputOf(file, form, tell) {
  * @param {Tell} tell
  */
 export function receive(station, file, found, keep, tell) {
-  const shelf = new ToldShelf(keep);
-  const none = { take: () => 0 };
-  station.live(['init', String(MOST_CAPACITY)], { input: none, shelf, put: () => {} });
-  let last = '';
-  let err = '';
+  const reception = new Reception(keep);
+  const { shelf, put } = reception;
+  station.live(['init', String(MOST_CAPACITY)], { input: { take: () => 0 }, shelf, put });
   const start = performance.now();
-  const lines = lineReader((line) => {
-    last = line;
-    if (line.startsWith('shelved ')) keep({ kind: 'shelved' });
-  });
-  /** @param {number} output @param {Uint8Array} bytes */
-  const put = (output, bytes) => {
-    if (output === 1) lines(bytes);
-    else err += new TextDecoder().decode(bytes);
-  };
   const input = inputOf(file, found.form, tell);
   const mending = found.mend ? ['--mend', String(found.mend)] : [];
   const status = station.live(['receive', ...optionsOf(found), ...mending], { input, shelf, put });
+  const { last, err } = reception;
   const fault = station.fault ? String(station.fault) : '';
   const memory = station.memory.buffer.byteLength;
   tell({ kind: 'received', status, last, err: err.trim(), fault, memory, milliseconds: performance.now() - start });

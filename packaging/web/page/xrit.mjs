@@ -114,7 +114,8 @@ function mendedText(text) {
   const packets = Number(found[2]);
   let [before, fillers] = [-1, 0];
   for (const run of found[1].split(' ')) {
-    const [first, last = first] = run.split('-').map(Number);
+    const [first, end] = run.split('-').map(Number);
+    const last = end ?? first;
     const isLater = before < first && first <= last && last < packets;
     if (!isLater) return null;
     fillers += last - first + 1;
