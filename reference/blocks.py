@@ -180,7 +180,7 @@ def drawn(seed, count):
 
 
 def received(seed, wrong):
-    """The block of a drawn frame with so many wrong bytes in each word, randomised."""
+    """The block of a drawn frame with `wrong` wrong bytes in each word, randomised."""
     frame = drawn(seed, 892)
     words = [encoded([frame[4 * i + k] for i in range(223)]) for k in range(4)]
     for k in range(4):

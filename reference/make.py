@@ -45,7 +45,7 @@ def transport(counter, bits):
 
 
 def image_stream(start, size):
-    """The packets of so many bytes at least of channel 0."""
+    """Packets of channel 0, with at least this number of bytes."""
     packets = []
     k = 0
     while sum(map(len, packets)) < size:

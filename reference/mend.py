@@ -340,7 +340,7 @@ def check() -> None:
     assert gaps(16, key((1, 7, image), (0, 8, b""), (0, 10, c))) == []
     # all pixels are there
     assert gaps(16, key((1, 7, image), (0, 8, bytes(12)), (2, 10, z))) == [(2, 9, bytes(12))]
-    # at most so many, of the whole image
+    # at most `most` of them, of the whole image
     five = key((1, 0, long), (0, 1, a), (0, 4, b), (0, 7, c), (2, 9, z))
     assert gaps(3, five) == [(0, 2, zeros), (0, 3, zeros)]
     assert gaps(4, five) == [(0, n, zeros) for n in (2, 3, 5, 6)]

@@ -118,7 +118,7 @@ class Draw(random.Random):
         return words, self.wrong_bytes(data)
 
     def bundle(self, options, count):
-        """So many recordings as one input of `downlinks`."""
+        """This number of recordings as one input of `downlinks`."""
         many = [self.cut(self.sent(options, 6)) for _ in range(count)]
         return bytes([len(many)]) + b"".join(len(one).to_bytes(8, "big") + one for one in many)
 

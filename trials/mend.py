@@ -61,7 +61,7 @@ class Sender:
 
 @dataclasses.dataclass
 class Image:
-    """An image, and the bodies that it is sent in. A body after the first one has so many pixels."""
+    """An image, and the bodies that it is sent in. A body after the first one has `pixels_in_body` pixels."""
 
     columns: int
     lines: int

@@ -41,7 +41,7 @@ def pixels_of(columns, lines, first_line, most):
 
 
 def packed(pixels, bits):
-    """The pixels in so many bits each."""
+    """The pixels, in this many bits each."""
     words = pixels.astype(">u2").reshape(-1, 1).view(numpy.uint8)
     return numpy.packbits(numpy.unpackbits(words, axis=1)[:, 16 - bits :].reshape(-1)).tobytes()
 

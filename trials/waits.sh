@@ -85,7 +85,7 @@ for workers in 1 2 8; do
     waits 63 63 at_once symbols --workers "$workers"
 done
 
-# files_of FRAMES: how many files come of so many frames
+# files_of FRAMES: how many files come of this number of frames
 files_of() {
     [ "$1" -gt 0 ] || { echo 0; return; }
     head -c $(($1 * frame)) symbols > given

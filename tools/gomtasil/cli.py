@@ -423,9 +423,9 @@ def add_page(command: Command) -> None:
     it = command(page)
     add(it, "shelf SHELF", SHELF_OR_FOLDER)
     add(it, "folder FOLDER", "where the page comes into")
-    newest = "show so many images and so many other files (200), and the newest of each application"
+    newest = "show the newest N images and N other files (200), and the newest of each application"
     add(it, "--newest N", newest, type=count, default=200)
-    add(it, "--rate SYMBOLS", "symbols a second, by which it is told when a file came", type=rate)
+    add(it, "--rate SYMBOLS", "symbols a second, by which the page tells when a file came", type=rate)
     add(it, "--log FILE", "a file with the lines of a reception, for the frames that were lost")
     served = "serve the page until a signal comes (127.0.0.1:8000), and nothing else"
     add(it, "--serve ADDRESS:PORT", served, type=address, nargs="?", const=("127.0.0.1", 8000))

@@ -51,7 +51,7 @@ class Source(Protocol):
     """Where symbols come from, such as a file that is open for reading."""
 
     def read(self, most: int, /) -> bytes | None:
-        """At most so many bytes; none at the end."""
+        """At most `most` bytes; none at the end."""
 
 
 # ---- the library's own forms

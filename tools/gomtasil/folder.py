@@ -194,7 +194,7 @@ class Folder:
         return aside
 
     def remove_days(self, most: int) -> list[str]:
-        """Removes the folders of days that are older than so many days. Their names."""
+        """Removes the folders of days that are older than `most` days. Their names."""
         oldest = time.strftime("%Y-%m-%d", time.gmtime(time.time() - 86400 * most))
         names = [name for name in os.listdir(self.path) if DAY.fullmatch(name) and name < oldest]
         old = sorted(name for name in names if not os.path.islink(self.full(name)) and os.path.isdir(self.full(name)))

@@ -253,7 +253,7 @@ def joined(parts: list[tuple[segments.Segment, Picture]]) -> Picture | None:
 
 
 def lay(canvas: bytearray, columns: int, picture: Picture, left: int, top: int) -> None:
-    """Lays a picture onto a canvas of so many columns."""
+    """Lays a picture onto a canvas with this number of columns."""
     if picture.columns == columns:
         at = top * columns * picture.width
         canvas[at : at + len(picture.pixels)] = picture.pixels

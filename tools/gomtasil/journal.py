@@ -143,7 +143,7 @@ class Log:
         return place + data.find(b"\n")
 
     def place_of(self, count: int) -> int:
-        """The place of the first line up to which there are so many files."""
+        """The place of the first line up to which there are `count` files."""
         low, high = self.begin_size, self.size
         while low < high:
             middle = self.line_after((low + high) // 2)

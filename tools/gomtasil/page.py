@@ -21,7 +21,7 @@ from .quality import FRAME_SYMBOLS
 from .segments import Group
 from .shelf import Front, Head, Pieces, Shelf, StoredFile
 
-NEWEST = 200  # files that are shown: so many images, and so many others
+NEWEST = 200  # images that are shown, and as many other files
 EACH = 32  # of each application that are shown whatever else came
 MOST_SHELVES = 8  # of a folder that are looked into for them
 MOST_TEXT_CHARACTERS = 20_000  # of a bulletin that are shown
@@ -137,7 +137,7 @@ class Summary:
 
 
 class Newest:
-    """The newest places: so many, and so many of each application."""
+    """The newest places: at most `most` of all, and at most `EACH` of each application."""
 
     def __init__(self, most: int):
         self.all: collections.deque[Place] = collections.deque(maxlen=most)

@@ -108,7 +108,7 @@ class Quality:
 
 
 def lines_of(descriptor: int, pause: float) -> Iterator[str | None]:
-    """The lines of a stream; None where none has come for so many seconds."""
+    """The lines of a stream; None where none has come for `pause` seconds."""
     rest = b""
     while True:
         if not select.select([descriptor], [], [], pause)[0]:

@@ -313,7 +313,7 @@ class Sender:
 
 
 def downlink(minutes: int) -> Iterator[bytes]:
-    """The frames of so many minutes: the files at equal distances, and fill between them."""
+    """The frames of this many minutes: the files at equal distances, and fill between them."""
     sender = Sender()
     files = [(IMAGE_CHANNEL, IMAGE_APPLICATION, it) for it in segments_of_earth()]
     files.insert(0, (TEXT_CHANNEL, TEXT_APPLICATION, bulletin(BULLETIN, 1)))

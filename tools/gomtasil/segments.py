@@ -80,7 +80,7 @@ def unnumbered(name: str, number: int) -> str:
 
 
 def in_words(numbers: Iterable[int]) -> str:
-    """Numbers with their runs drawn together, and at most so many of these."""
+    """Numbers with their runs drawn together, and at most `MOST_RUNS` of these."""
     runs: list[list[int]] = []
     for it in numbers:
         if runs and it == runs[-1][1] + 1:

@@ -72,7 +72,7 @@ class Server(http.server.ThreadingHTTPServer):
 
 
 def serve(address: tuple[str, int], folder: str, write: Callable[[], None], seconds: int) -> int:
-    """Writes the page anew every so many seconds, and serves it, until a signal comes."""
+    """Writes the page anew after each pause of this many seconds, and serves it, until a signal comes."""
     server = Server(address, folder)
     name, port = server.server_address[:2]
     host = f"[{name!s}]" if ":" in str(name) else str(name)

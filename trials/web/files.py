@@ -40,7 +40,7 @@ def write(name: str, data: bytes) -> None:
 
 
 def noisy(symbols: bytes, level: float, noise: float, seed: int) -> bytes:
-    """Symbols at a level with Gaussian noise of so many times that."""
+    """Symbols at a level, with Gaussian noise whose deviation is `noise` times the level."""
     draw = random.Random(seed)
     table = [draw.gauss(0, noise * level) for _ in range(1 << 16)]
     places = array.array("H", draw.randbytes(2 * len(symbols)))

@@ -82,7 +82,9 @@ fn have_receipts(run: &Run, downlinks: u8, each: u64) -> Result<(), Fail> {
         let wanted = if downlink < downlinks { each } else { 0 };
         let came = receipts_of(run, downlink);
         if came != wanted {
-            return Err(Fail::new(format_args!("downlink {downlink} has {came} receipts")));
+            return Err(Fail::new(format_args!(
+                "downlink {downlink} has {came} receipts (1000: not in order), and not {wanted}"
+            )));
         }
     }
     Ok(())
@@ -173,13 +175,14 @@ fn ends_at<R: Threads + Wait + Sync>(
     let count = appended(&made.run);
     let files = files_on(alloc, &mut made.disk);
     have_receipts(&made.run, 1, count)?;
-    if matches!(made.run.result, RunEnd::Disk)
-        && files.saturating_sub(count) <= 1
-        && files >= count
-    {
+    let by_disk = matches!(made.run.result, RunEnd::Disk);
+    if by_disk && files.saturating_sub(count) <= 1 && files >= count {
         return Ok(());
     }
-    Err(Fail::new(format_args!("call {call} fails: {count} receipts and {files} files")))
+    Err(Fail::new(format_args!(
+        "call {call} fails: ended by the disk: {by_disk}, and not true; or files (1000: no shelf): {files}, and not \
+         {count} or one more"
+    )))
 }
 
 #[test]
@@ -202,7 +205,9 @@ fn leaves_a_shelf(alloc: Global, disk: &MemDisk, call: u64, most: u64) -> Result
         if call < disk.calls() {
             let files = files_on(alloc, &mut disk.image(alloc, call, kind)?);
             if files > most {
-                return Err(Fail::new(format_args!("kind {kind} in call {call}: {files} files")));
+                return Err(Fail::new(format_args!(
+                    "a stop of kind {kind} in call {call}: {files} files (1000: no shelf), and not {most} at most"
+                )));
             }
         }
     }
