@@ -55,6 +55,8 @@ changed() {
 changed lritstation 's/^  --workers W  /  --workers X  /' "lritstation: the help gives decode"
 changed lritstation 's/^  repack N BLOCK  /  recode N BLOCK  /' "lritstation: the help has the commands"
 changed packaging/words.sh 's/ | trial)/)/' "packaging/words.sh: the commands that may write are"
+changed CHANGELOG.md 's/The [0-9]* tests stand/The 1 tests stand/' "CHANGELOG.md: the tests are"
+changed CHANGELOG.md 's/^- [0-9]* edits must fail/- 1 edits must fail/' "CHANGELOG.md: the edits are"
 
 # blessed NAME LABELS SCRIPT: where `index.py` is changed by this script of sed, it makes a page with other labels of
 # this call and finds no fault in it, and the second count says which are right: these, which were read in the sources

@@ -189,18 +189,22 @@ def tests():
             yield found
 
 
+def newest(document):
+    """The text of a page, of CHANGELOG that of the newest version: what was counted for an older one stays."""
+    text = text_of(document)
+    return re.split(r"(?m)^## ", text)[1] if document == "CHANGELOG.md" else text
+
+
 def look_at_numbers(found):
     needed = len(below("lr_program", found, {"lr_program"}))
     for document, shape, true, what in (
         ("README.md", r"proves (\d+) crates", needed, "the crates of the program"),
         ("docs/CI.md", r"(\d+) crates of the program", needed, "the crates of the program"),
-        ("docs/CI.md", r"(\d+) edits", len(glob.glob("crates/*/must-fail/*.edit")), "the edits"),
-        ("docs/CLAIMS.md", r"(\d+) edits", len(glob.glob("crates/*/must-fail/*.edit")), "the edits"),
         ("CHANGELOG.md", r"(\d+) edits must fail", len(glob.glob("crates/*/must-fail/*.edit")), "the edits"),
         ("CHANGELOG.md", r"The (\d+) tests stand", sum(map(len, tests())), "the tests"),
         ("CHANGELOG.md", r"tests stand in (\d+) crates", len(list(tests())), "the crates with tests"),
     ):
-        for told in re.findall(shape, text_of(document) if os.path.exists(document) else ""):
+        for told in re.findall(shape, newest(document)):
             if int(told) != true:
                 faults.append(f"{document}: {what} are {true}, not {told}")
 

@@ -271,7 +271,7 @@ try_lintian() {
     is "what lintian finds" "$(lintian --fail-on none first/*.deb 2> said | grep '^[EW]:')" ""
 }
 
-# A fresh system in the folder `root`, where it can be had.
+# make_root [TRIAL..]: a fresh system in the folder `root`, where it can be had, with what these need
 make_root() {
     if [ -d "${SYSTEMS-}/$architecture-$suite" ]; then
         cp -a "$SYSTEMS/$architecture-$suite" root
@@ -281,7 +281,7 @@ make_root() {
     mirror=$(cat /etc/apt/sources.list.d/debian.sources /etc/apt/sources.list 2> /dev/null |
         awk '$1 == "URIs:" || $1 == "deb" { print $2; exit }')
     mmdebstrap --quiet --variant=apt --architectures="$architecture" \
-        --include=netcat-openbsd,procps,python3-jinja2,python3-pil,systemd "$suite" root \
+        --include="netcat-openbsd,procps,python3-jinja2,python3-pil,systemd${1:+,git,nanomsg-utils}" "$suite" root \
         "${mirror:-http://deb.debian.org/debian}" > said 2>&1 && return
     tail -n 3 said
     echo "no Debian system can be had here (is there a network?): nothing was installed"
@@ -347,7 +347,7 @@ try_system() {
         echo "this needs root: nothing was installed"
         return
     fi
-    make_root || return
+    make_root "$@" || return
     cp first/*.deb root/gomtasil.deb
     files > before
     apt install /gomtasil.deb

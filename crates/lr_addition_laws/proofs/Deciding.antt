@@ -1,6 +1,6 @@
 -- The commands that add an item decide one thing of each shelf.
-use Rattle.std.proofs.Common.{◌≡◌, ◌⊎◌, ℕ, zero, suc, ◌+◌, ◌*◌, ◌<◌, ◌≤◌, Bool, true, false, cond, Option, Some, None, Result}
-use Rattle.std.proofs.Common.{Ok, Err, List, [], ◌∷◌, ◌++◌, length, get_or, map, All, refl, sym, ap, ◌∙◌, subst, arith}
+use Rattle.std.proofs.Common.{◌≡◌, ℕ, zero, suc, ◌+◌, ◌*◌, ◌<◌, Bool, true, false, cond, Option, Some, None, Result}
+use Rattle.std.proofs.Common.{Ok, Err, List, [], ◌∷◌, ◌++◌, length, map, All, refl, sym, ap, ◌∙◌, subst, arith}
 use Rattle.std.proofs.Common.{inl, inr, drop, option_map}
 use Rattle.std.specs.List.{flat_map}
 use Rattle.std.proofs.lemmas.Bool.{cases_lt}
@@ -9,7 +9,7 @@ use Rattle.byteorder.specs.Endian.{big_bytes}
 use Rattle.lr_bits.specs.Crc.{crc_of}
 use Rattle.lr_bits.specs.File.{File, IsFile, bytes_of}
 use Rattle.lr_headers.specs.Tiling.{Header}
-use Rattle.lr_headers.specs.Fields.{file_type, is_encrypted, lossless_of, structure_of}
+use Rattle.lr_headers.specs.Fields.{file_type, lossless_of, structure_of}
 use Rattle.lr_headers.specs.declared.fields.Lossless.{Lossless}
 use Rattle.lr_headers.specs.declared.fields.Structure.{Structure}
 use Rattle.lr_rice.specs.CodedLines.{Form}
@@ -29,8 +29,7 @@ use Rattle.lr_image.specs.declared.shape.Shape.{Shape}
 use Rattle.lr_bits.specs.declared.placed.Origin.{Origin}
 use Rattle.lr_shelf_format.specs.Items.{Holds, IsItem, add_bytes, item_bytes, item_of_file, item_of_stored, old_bytes}
 use Rattle.lr_shelf_format.specs.Record.{body_of, bytes_of_head, head_of_file, origin_bytes}
-use Rattle.lr_shelf_format.specs.Way.{Bad, EntryState, Gone, IsFound, IsWay, Sound, Way, item_at}
-use Rattle.lr_shelf_format.specs.declared.entry.Entry.{Entry}
+use Rattle.lr_shelf_format.specs.Way.{Bad, EntryState, Gone, IsFound, Sound, Way, item_at}
 use Rattle.lr_shelf_format.specs.declared.stored.Stored.{Stored}
 use Rattle.lr_shelf_format.proofs.SomeEntry.{some_found}
 use Rattle.lr_shelf_format.proofs.WayLemmas.{found_once}
@@ -43,12 +42,13 @@ use Rattle.lr_refusals.specs.Errors.{image_fault}
 use Rattle.lr_causes.specs.declared.cause.Refusal.{Refusal}
 use Rattle.lr_causes.specs.declared.cause.Refusal.TheVariants.{BadChecksum, CannotExport, CannotRepack, Discarded}
 use Rattle.lr_causes.specs.declared.cause.Refusal.TheVariants.{NoSuchFile, NotAShelf}
-use Rattle.lr_causes.specs.declared.fault.CodingFault.TheVariants.{Depth, File as LongFile, Header as LongHeader, Line}
+use Rattle.lr_causes.specs.declared.fault.CodingFault.TheVariants.{Depth, File as LongFile, Header as LongHeader}
+use Rattle.lr_causes.specs.declared.fault.CodingFault.TheVariants.{Line}
 use Rattle.lr_causes.specs.declared.fault.ExportFault.{ExportFault}
-use Rattle.lr_cmd_shelf.specs.Adding.{Addition, AdditionQuery}
-use Rattle.lr_cmd_shelf.specs.Discard.{DecidesDiscard, discard_addition, discard_query}
+use Rattle.lr_cmd_shelf.specs.Adding.{Addition}
+use Rattle.lr_cmd_shelf.specs.Discard.{discard_addition, discard_query}
 use Rattle.lr_cmd_shelf.specs.Queries.{entry_at}
-use Rattle.lr_cmd_shelf.specs.Repack.{DecidesCoded, DecidesFound, DecidesRepack, repack_addition, repack_query}
+use Rattle.lr_cmd_shelf.specs.Repack.{DecidesCoded, DecidesFound, repack_addition, repack_query}
 use Rattle.lr_cmd_shelf.specs.Repack.{repack_refusal}
 use Rattle.lr_addition_laws.proofs.Repacking.{Small, dropped_small, places_small, repacks_have_outcomes, small_places}
 use Rattle.lr_addition_laws.proofs.Repacking.{taken_small}

@@ -1,13 +1,13 @@
 -- Strings of bits, and the bytes that they fill.
 use Rattle.std.proofs.Common.{◌≡◌, ◌==◌, ℕ, zero, suc, ◌+◌, ◌-◌, ◌*◌, ◌/◌, ◌^◌, ◌<◌, ◌≤◌, Bool, true, false, List, []}
-use Rattle.std.proofs.Common.{◌∷◌, ◌++◌, length, take, drop, All, refl, sym, ap, ◌∙◌, subst, arith, length-append}
+use Rattle.std.proofs.Common.{◌∷◌, ◌++◌, length, take, drop, All, refl, sym, ap, ◌∙◌, arith, length-append}
 use Rattle.std.specs.Prelude.{replicate}
 use Rattle.std.specs.List.{flat_map}
 use Rattle.std.proofs.lemmas.List.{length-drop, length-replicate, length-take-le, take-append-drop}
 use Rattle.std.proofs.Math.Nat.{pow-succ'}
 use Rattle.std.proofs.lemmas.Nat.Bits.{bit_at-lt}
 use Rattle.lr_bits.specs.Bits.{bits_of, number_bits, zeros_and_one}
-use Rattle.lr_bits.proofs.ReaderLemmas.{bits_of-cons, bits_of-nil, length-number_bits, number_bits_of_parts}
+use Rattle.lr_bits.proofs.ReaderLemmas.{bits_of-cons, bits_of-nil, number_bits_of_parts}
 use Rattle.lr_rice.specs.declared.choice.BlockOption.{BlockOption}
 use Rattle.lr_rice.specs.declared.choice.BlockOption.TheVariants.{SecondExtension, Split, Uncoded, ZeroBlock}
 use Rattle.lr_rice.specs.CodedLines.{Form, Halves, Numbers, Pairs, Part, Zeros, block_count, body_string, head_string}

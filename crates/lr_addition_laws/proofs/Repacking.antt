@@ -1,8 +1,9 @@
 -- Each file has an outcome of `repack`.
-use Rattle.std.proofs.Common.{◌≡◌, ◌⊎◌, ℕ, zero, suc, ◌+◌, ◌*◌, ◌<◌, ◌≤◌, Option, Some, None, Result, Ok, Err, List, []}
-use Rattle.std.proofs.Common.{◌∷◌, ◌++◌, length, take, drop, get_or, map, All, refl, sym, ap, ◌∙◌, subst, arith, inl, inr}
+use Rattle.std.proofs.Common.{◌≡◌, ◌⊎◌, ℕ, zero, suc, ◌+◌, ◌*◌, ◌<◌, ◌≤◌, Option, Some, None, Result, Ok, Err, List}
+use Rattle.std.proofs.Common.{[]}
+use Rattle.std.proofs.Common.{◌∷◌, length, take, drop, get_or, map, All, refl, sym, subst, arith, inl, inr}
 use Rattle.std.proofs.Common.{length-append}
-use Rattle.std.specs.Prelude.{find, slice_index}
+use Rattle.std.specs.Prelude.{find}
 use Rattle.std.specs.Option.{option_map}
 use Rattle.std.specs.List.{AllZip, concat, range_with_len}
 use Rattle.std.proofs.lemmas.Bool.{cases_lt}
@@ -11,18 +12,17 @@ use Rattle.byteorder.specs.Endian.{big_number}
 use Rattle.lr_bits.specs.File.{File, IsFile, bytes_of, counter_of, proper_of}
 use Rattle.lr_bits.specs.Sizes.{most_body_bytes, most_file_bytes}
 use Rattle.lr_bits.specs.Written.{transport_header}
-use Rattle.lr_headers.specs.Fields.{contents_of, first_contents, structure_in, structure_of}
-use Rattle.lr_headers.specs.Kinds.{structure_kind}
-use Rattle.lr_headers.specs.Tiling.{Header, IsHeaderOf, file_header_bytes, number_at}
+use Rattle.lr_headers.specs.Fields.{contents_of, structure_in, structure_of}
+use Rattle.lr_headers.specs.Tiling.{Header, file_header_bytes, number_at}
 use Rattle.lr_headers.specs.declared.entry.Entry.{Entry}
 use Rattle.lr_headers.specs.declared.fields.Structure.{Structure}
-use Rattle.lr_image.specs.Images.{HasOutcome, IsImageOf}
+use Rattle.lr_image.specs.Images.{HasOutcome}
 use Rattle.lr_image.specs.Pgm.{line_pixels}
 use Rattle.lr_image.specs.Picture.{Picture}
 use Rattle.lr_image.specs.declared.fault.ImageFault.{ImageFault}
 use Rattle.lr_image.proofs.EachFile.{files_have_outcomes}
 use Rattle.lr_rice.proofs.EachItem.{more_at, none_at}
-use Rattle.lr_rice_coder.specs.Coded.{IsBlockSize, IsCodedLine, byte_count}
+use Rattle.lr_rice_coder.specs.Coded.{IsCodedLine, byte_count}
 use Rattle.lr_rice_coder.specs.Refusals.{AreShort, HasRepackOutcome, IsLongAt}
 use Rattle.lr_rice_coder.specs.Repacked.{AreCodedLines, IsNarrow, IsSource, file_size, first_body, first_size}
 use Rattle.lr_rice_coder.specs.Repacked.{form_with, new_records, records_size, repacked_file}

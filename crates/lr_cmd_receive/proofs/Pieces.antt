@@ -127,10 +127,10 @@ module _ {D O : Type 0} (world : OutletsOf D O) where
     }
 
     -- and a part of one more
-    lines_after : {cause : Cause} {ys : List NotedFile} {w2 : Outlets D O}
-        → StopsInLines world.out cause (length (kept_by shelf1).way.entries) ys w1.out w2.out
-        → StopsInLines world.out cause (length (kept_by shelf).way.entries) (xs ++ ys) w.out w2.out
-    lines_after {cause} {ys} {w2} next =
+    lines_after : {cause : Cause} {ys : List NotedFile} {o2 : O}
+        → StopsInLines world.out cause (length (kept_by shelf1).way.entries) ys w1.out o2
+        → StopsInLines world.out cause (length (kept_by shelf).way.entries) (xs ++ ys) w.out o2
+    lines_after {cause} {ys} {o2} next =
         let number = length (kept_by shelf).way.entries in
         let number1 = length (kept_by shelf1).way.entries in
         let done = next.done in
@@ -149,9 +149,9 @@ module _ {D O : Type 0} (world : OutletsOf D O) where
                 split = cut.split;
                 part = λ t.
                     subst (λ (l : List ℕ). PutsPart (noted_line (number + length (xs ++ done)) cut.next) l
-                    (world.out.contents w2.out)) (lines_on done t)
+                    (world.out.contents o2)) (lines_on done t)
                     (subst (λ (k : ℕ). PutsPart (noted_line k cut.next)
-                    (world.out.contents w1.out ++ shelved_lines number1 done) (world.out.contents w2.out)) there
+                    (world.out.contents w1.out ++ shelved_lines number1 done) (world.out.contents o2)) there
                     (cut.part (first.told_by_out t)));
               };
         }
