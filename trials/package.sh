@@ -12,7 +12,8 @@
 # -arm64 after its name instead, and that this machine starts programs for arm64 by qemu (binfmt_misc with flag F, as
 # Debian's qemu-user-static sets it up). The system is one for arm64 then, for which mmdebstrap needs arch-test; where
 # there is none the status is 77. $SYSTEMS in the environment may name a folder that has fresh systems as ARCHITECTURE-SUITE
-# (amd64-bookworm), of which a copy is taken; $REFUSE_LIBRARY is for memory.sh.
+# (amd64-bookworm), of which a copy is taken; $REFUSE_LIBRARY is for memory.sh. $LIBRARY may name the folder of the
+# library, as for packaging/debian.sh; with one, pkg-config and a C compiler are needed for a case.
 # shellcheck disable=SC2012,SC2016 # (the names are those that are made here; a variable is one of an inner shell)
 top=$(cd "$(dirname "$0")/.." && pwd)
 suite=${1:-bookworm} architecture=${2:-amd64}
