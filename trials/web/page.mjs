@@ -97,6 +97,7 @@ async function lacking(browser) {
   const recording = fs.readFileSync(place('lacking'));
   for (const mend of [[], ['--mend', '64']]) {
     const shelf = place(`lacking${mend.length}.shelf`);
+    fs.rmSync(shelf, { force: true });
     spawnSync(program, [shelf, 'init', '1000000']);
     const { stdout } = spawnSync(program, [shelf, 'receive', ...CODE, ...mend], { input: recording });
     const lines = stdout.toString().split('\n').filter((line) => line.startsWith('shelved '));
@@ -273,6 +274,7 @@ function statusOf(where, path, headers = {}) {
 /** The shelf of the program, and the last line that it puts, where it receives the recording as the live page does. */
 function programsLive(recording) {
   const shelf = place('live.shelf');
+  fs.rmSync(shelf, { force: true });
   spawnSync(program, [shelf, 'init', String(2 ** 40)]);
   const done = spawnSync(program, [shelf, 'receive', ...CODE, '--mend', '64'], { input: recording });
   return { shelf: fs.readFileSync(shelf), last: done.stdout.toString().trim().split('\n').at(-1) };

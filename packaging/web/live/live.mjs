@@ -11,6 +11,7 @@ let keeper;
 /** @type {Worker} */
 let receiver;
 let files = 0;
+let came = 0; // bytes
 const view = new View((message) => keeper.postMessage(message));
 
 /** @param {string} text @param {boolean} [isBad] */
@@ -25,14 +26,20 @@ function going(isGoing) {
   at('stop').disabled = !isGoing;
 }
 
+function count() {
+  at('time').textContent = `${(came / 1e6).toFixed(1)} MB came. Files so far: ${files}`;
+}
+
 /** @type {Record<string, (message: Message) => void>} */
 const HEARD = {
   open: () => say('Listening. Files appear as they come.'),
   came: ({ bytes }) => {
-    at('time').textContent = `${(bytes / 1e6).toFixed(1)} MB came. Files so far: ${files}`;
+    came = bytes;
+    count();
   },
   file: (file) => {
     files += 1;
+    count();
     view.file(file);
   },
   picture: (picture) => view.picture(picture),
@@ -76,7 +83,7 @@ async function load() {
 at('listen').onclick = () => {
   const { port1, port2 } = new MessageChannel();
   view.clear();
-  files = 0;
+  files = came = 0;
   delete document.body.dataset.settled;
   keeper.postMessage({ kind: 'keep', port: port1 }, [port1]);
   receiver?.terminate();
