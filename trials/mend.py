@@ -14,6 +14,7 @@ import dataclasses
 import os
 import pathlib
 import random
+import shutil
 import struct
 import subprocess
 import sys
@@ -23,6 +24,7 @@ sys.path.insert(0, str(pathlib.Path(__file__).resolve().parent.parent / "tools")
 from gomtasil import shelf as shelves  # noqa: E402
 
 ZONE = 884
+FRAME = 892
 IDLE = 2047
 NO_START = 2047
 COUNTS = 1 << 14
@@ -30,6 +32,12 @@ COUNTERS = 1 << 24
 CHANNEL, APPLICATION = 13, 313
 RATES = (0.001, 0.005, 0.01, 0.02)
 FILLERS = (16, 64, 255)
+MARKER = b"\x1a\xcf\xfc\x1d"
+CHECK_BYTES = 128
+ORBITS = """TEST
+1 25544U 98067A   24001.50000000  .00016717  00000-0  10270-3 0  9005
+2 25544  51.6400 208.9163 0006317  69.9862  25.2906 15.49560000 10009
+"""
 
 
 class Sender:
@@ -186,10 +194,65 @@ def row(station: Station, image: Image, rate: float, draws: int, seed: int) -> l
     return ["coded" if image.coded else "plain", f"{rate * 100:g} %", str(whole), *counts]
 
 
+class SatDump:
+    """SatDump in a folder with a Debian system. It gets frames that were corrected, so their check bytes may be any."""
+
+    def __init__(self, root: pathlib.Path) -> None:
+        self.root = root
+        self.folder = root / "tmp" / "mend-trial"
+
+    def pictures(self, frames: bytes) -> list[tuple[tuple[int, int], bytes]]:
+        """The size and the pixels of each picture that it writes."""
+        from PIL import Image as Picture
+
+        shutil.rmtree(self.folder, ignore_errors=True)
+        self.folder.mkdir()
+        (self.folder / "orbits").write_text(ORBITS)
+        units = (frames[at : at + FRAME] for at in range(0, len(frames), FRAME))
+        (self.folder / "frames").write_bytes(b"".join(MARKER + unit + bytes(CHECK_BYTES) for unit in units))
+        words = "satdump goes_lrit cadu frames out --tle_override orbits --max_fill_lines 50 --fill_missing true"
+        told = ["chroot", str(self.root), "sh", "-c", f"cd /tmp/mend-trial && {words}"]
+        ran = subprocess.run(told, capture_output=True, check=False)
+        if ran.returncode:
+            sys.exit(f"trials/mend.sh: satdump: {ran.returncode} {ran.stdout.decode()[-400:]}")
+        found = []
+        for path in sorted(self.folder.glob("out/IMAGES/**/*.png")):
+            with Picture.open(path) as picture:
+                found.append((picture.size, picture.convert("L").tobytes()))
+        shutil.rmtree(self.folder)
+        return found
+
+
+def lines_in_place(image: Image, pixels: bytes) -> int:
+    """How many lines of a picture are those that were sent."""
+    starts = range(0, len(image.pixels), image.columns)
+    return sum(pixels[at : at + image.columns] == image.pixels[at : at + image.columns] for at in starts)
+
+
+def beside(station: Station, satdump: SatDump, image: Image, rate: float, draws: int, seed: int) -> list[str]:
+    """One row beside SatDump: of the images that are shown, how many lines stand in their place."""
+    draw = random.Random(seed)
+    sender = Sender()
+    first = list(sender.frames(image.bodies))
+    second = list(sender.frames(plain_image(image.columns, image.lines, random.Random(2)).bodies))
+    ours: list[int] = []
+    theirs: list[int] = []
+    for _ in range(draws):
+        frames = b"".join([it for it in first if draw.random() >= rate] + second)
+        if len(station.received(frames, 64)) == 2:
+            ours.append(lines_in_place(image, station.pixels()))
+        size = (image.columns, image.lines)
+        shown = [lines_in_place(image, pixels) for there, pixels in satdump.pictures(frames) if there == size]
+        theirs += [max(shown)] if shown and max(shown) else []
+    counts = [f"{len(lines)}, {sum(lines) / max(1, len(lines)) / image.lines:.1%}" for lines in (ours, theirs)]
+    return [f"{rate * 100:g} %", str(draws), *counts]
+
+
 def main() -> None:
     parser = argparse.ArgumentParser(description=__doc__)
     parser.add_argument("folder", type=pathlib.Path)
     parser.add_argument("--draws", type=int, default=100)
+    parser.add_argument("--satdump", type=pathlib.Path, metavar="ROOT", help="compare with SatDump, which is in ROOT")
     words = parser.parse_args()
     station = Station(os.environ["LRITSTATION"], words.folder)
     plain = plain_image(1330, 1330, random.Random(1))
@@ -199,6 +262,11 @@ def main() -> None:
     for image in (plain, coded):
         for seed, rate in enumerate(RATES):
             print(" | ".join(row(station, image, rate, words.draws, seed)), flush=True)
+    if words.satdump:
+        print("frames lost | images | --mend 64: shown, lines in place | SatDump: shown, lines in place")
+        satdump = SatDump(words.satdump)
+        for seed, rate in enumerate(RATES):
+            print(" | ".join(beside(station, satdump, plain, rate, min(words.draws, 20), seed)), flush=True)
 
 
 if __name__ == "__main__":

@@ -4,7 +4,9 @@
 # some 2,000 frames, coded and not, from which frames are left out at four rates, this many times each: how many come
 # whole, and with N of 16, 64 and 255 how many are mended and lost. All pixels outside of the places that the marks tell
 # have to be those that were sent.
-# Usage: trials/mend.sh [DRAWS], by default 100. Ten minutes with 100. Needs rt and python3. With another program in
+# Usage: trials/mend.sh [DRAWS [ROOT]], by default 100. Ten minutes with 100. Needs rt and python3. ROOT is a folder with
+# a Debian system that has SatDump, as for satdump.sh. Then SatDump gets the frames of twenty drawings of each rate too,
+# by chroot, so as root and with Pillow: how many lines of its pictures stand in their place. With another program in
 # LRITSTATION it is that one's.
 top=$(cd "$(dirname "$0")/.." && pwd)
 scratch=$(mktemp -d) || exit 1
@@ -51,5 +53,5 @@ echo "the sample without six frames: 3 files of 6, and with --mend 64 6 of 6, $f
 
 # ---- an image of 2,000 frames
 mkdir images
-python3 "$top/trials/mend.py" images --draws "${1:-100}" || exit 1
+python3 "$top/trials/mend.py" images --draws "${1:-100}" ${2:+--satdump "$2"} || exit 1
 echo "trials/mend.sh: passed"
