@@ -2,8 +2,8 @@
 
 An image is cut into bodies of one length, after a body with its header alone, and is sent in frames, from which some
 are left out. A second image follows, since a lost end comes with the next packet of its application. Where the first
-image is mended, the mark in its header tells the places of the packets that stand in. All pixels outside of them have to
-be those that were sent, and those of an image that isn't coded are 0 within them.
+image is mended, the mark in its header tells the places of the packets that stand in. All pixels outside of them have
+to be those that were sent, and those of an image that isn't coded are 0 within them.
 """
 
 from __future__ import annotations

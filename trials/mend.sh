@@ -1,13 +1,13 @@
 #!/bin/sh
 # Images that lack packets. First the sample of README, sent as symbols, with drawn symbols in place of those of six
-# frames: plain `receive` gives three of its six files, `receive --mend 64` all six, three of them whole. Then an image of
-# some 2,000 frames, coded and not, from which frames are left out at four rates, this many times each: how many come
+# frames: plain `receive` gives three of its six files, `receive --mend 64` all six, three of them whole. Then an image
+# of some 2,000 frames, coded and not, from which frames are left out at four rates, this many times each: how many come
 # whole, and with N of 16, 64 and 255 how many are mended and lost. All pixels outside of the places that the marks tell
 # have to be those that were sent.
-# Usage: trials/mend.sh [DRAWS [ROOT]], by default 100. Ten minutes with 100. Needs rt and python3. ROOT is a folder with
-# a Debian system that has SatDump, as for satdump.sh. Then SatDump gets the frames of twenty drawings of each rate too,
-# by chroot, so as root and with Pillow: how many lines of its pictures stand in their place. With another program in
-# LRITSTATION it is that one's.
+# Usage: trials/mend.sh [DRAWS [ROOT]], by default 100. Ten minutes with 100. Needs rt and python3. ROOT is a folder
+# with a Debian system that has SatDump, as for satdump.sh. Then SatDump gets the frames of twenty drawings of each rate
+# too, by chroot, so as root and with Pillow: how many lines of its pictures stand in their place. With another program
+# in LRITSTATION it is that one's.
 top=$(cd "$(dirname "$0")/.." && pwd)
 scratch=$(mktemp -d) || exit 1
 trap 'rm -rf "$scratch"' EXIT
