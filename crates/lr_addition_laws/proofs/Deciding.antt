@@ -52,7 +52,7 @@ use Rattle.lr_cmd_shelf.specs.Repack.{DecidesCoded, DecidesFound, repack_additio
 use Rattle.lr_cmd_shelf.specs.Repack.{repack_refusal}
 use Rattle.lr_addition_laws.proofs.Repacking.{Small, dropped_small, places_small, repacks_have_outcomes, small_places}
 use Rattle.lr_addition_laws.proofs.Repacking.{taken_small}
-use Rattle.lr_addition_laws.specs.Additions.{AdditionsAreDecided, AdditionsAreOne, IsDecided, IsDecidedOnce}
+use Rattle.lr_addition_laws.specs.Additions.{AdditionsAreDecided, AdditionsAreOne, HasDecision, IsDecidedOnce}
 
 -- ---- no image lacks memory
 
@@ -202,11 +202,11 @@ module _ (bytes : List ℕ) (way : Way) (number block : ℕ) where
   Found = Option EntryState
 
   discard_by : (gone : Bool) → (entry_at way number).gone ≡ gone → number < length way.entries
-      → IsDecided (discard_query number) bytes way
+      → HasDecision (discard_query number) bytes way
   discard_by true is there = (Err Discarded, inr (inl (there, is, refl)))
   discard_by false is there = (Ok (discard_addition number), inr (inr (record { there = there; stays = is }, refl)))
 
-  discard_decided : IsDecided (discard_query number) bytes way
+  discard_decided : HasDecision (discard_query number) bytes way
   discard_decided = elim (cases_lt number (length way.entries)) [
     | inl there ↦ discard_by (entry_at way number).gone refl there
     | inr past ↦ (Err (NoSuchFile (length way.entries)), inl (omega (arith, past), refl))
@@ -240,7 +240,7 @@ module _ (bytes : List ℕ) (way : Way) (number block : ℕ) where
     found_by (Some (Bad stored computed)) is = (Err BadChecksum, refl)
     found_by (Some (Sound stored)) is = stored_by stored is.2
 
-    repack_decided : IsDecided (repack_query number block) bytes way
+    repack_decided : HasDecision (repack_query number block) bytes way
     repack_decided = elim (cases_lt number (length way.entries)) [
       | inl there ↦
           let found = some_found bytes fit (entry_at way number) in

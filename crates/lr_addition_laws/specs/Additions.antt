@@ -8,8 +8,8 @@ use Rattle.lr_cmd_shelf.specs.Discard.{discard_query}
 use Rattle.lr_cmd_shelf.specs.Repack.{repack_query}
 
 -- it decides something of these bytes, which have this way
-abbrev pub IsDecided : AdditionQuery → List ℕ → Way → Type 0
-IsDecided query bytes way = (result : Result Addition Refusal) × query.decides bytes way result
+abbrev pub HasDecision : AdditionQuery → List ℕ → Way → Type 0
+HasDecision query bytes way = (result : Result Addition Refusal) × query.decides bytes way result
 
 -- and nothing else
 abbrev pub IsDecidedOnce : AdditionQuery → List ℕ → Way → Type 0
@@ -20,7 +20,7 @@ abbrev pub AdditionsAreDecided : Type 0
 AdditionsAreDecided =
     (bytes : List ℕ) (way : Way) (number block : ℕ) → All (λ byte. byte < 256) bytes → IsWay bytes way
     → IsBlockSize block
-    → IsDecided (discard_query number) bytes way × IsDecided (repack_query number block) bytes way
+    → HasDecision (discard_query number) bytes way × HasDecision (repack_query number block) bytes way
 
 abbrev pub AdditionsAreOne : Type 0
 AdditionsAreOne =

@@ -29,7 +29,7 @@ use Rattle.lr_downlinks.specs.Bundles.{IsBundle}
 use Rattle.lr_cmd_downlinks.specs.Downlinks.{DownlinksRun, OutBesides, bundle_read}
 use Rattle.lr_cmd_downlinks.specs.Downlinks.{EndsMerging}
 use Rattle.lr_causes.specs.Outside.{NoFault, outside, world_of}
-use Rattle.lr_cmd_downlinks.specs.Downlinks.{IsBefore, LeavesAllAlone, LeavesAlone}
+use Rattle.lr_cmd_downlinks.specs.Downlinks.{IsBefore, LeavesAllAlone, LeavesDiskAndOut}
 use Rattle.lr_cmd_downlinks.specs.Taking.{AreAllTaken, HasFlaw, StopsTaking, TakesNone, most_taken}
 use Rattle.lr_reading.specs.Reading.{IsRead}
 
@@ -48,7 +48,7 @@ module _ {S D O : Type 0} (source : SourceOf S) (disk : DiskOf D) (out : SinkOf 
       (counts (source.faults s') (disk.faults d1) (out.faults o)) named same (λ not none. ready.count)
       (λ not none. refl)
 
-  left_alone : LeavesAlone (world_of source disk out) (outside s d o) (outside s' d1 o)
+  left_alone : LeavesDiskAndOut (world_of source disk out) (outside s d o) (outside s' d1 o)
   left_alone = record { only_read = ready.only_read; out_stays = refl }
 
   module _ (bytes : List ℕ) (read : IsRead source most_taken bytes s s') where

@@ -161,13 +161,13 @@ bundle_read line bytes = record { line = line; bytes = bytes }
 
 module _ {S D O : Type 0} (world : World S D O) where
   -- the disk was only read, whatever it tells, and `out` is as it was
-  pub record LeavesAlone (w w' : Outside S D O) : Type 0 where
+  pub record LeavesDiskAndOut (w w' : Outside S D O) : Type 0 where
     pub only_read : IsOnlyRead world.disk w.disk w'.disk
     pub out_stays : w'.out ≡ w.out
 
   -- and the source is as it was
   pub record LeavesAllAlone (w w' : Outside S D O) : Type 0 where
-    pub alone : LeavesAlone w w'
+    pub alone : LeavesDiskAndOut w w'
     pub source_stays : w'.source ≡ w.source
 
   module _ (read : BundleRead) where
@@ -197,17 +197,17 @@ module _ {S D O : Type 0} (world : World S D O) where
     abbrev pub EndsMerging : Cause → Outside S D O → Outside S D O → Type 0
     EndsMerging Done w w' = Merges Done w w'
     EndsMerging (Failed Source) w w' =
-        LeavesAlone w w' × EndsFor world.source Fault (within most_taken read.bytes) w.source w'.source
+        LeavesDiskAndOut w w' × EndsFor world.source Fault (within most_taken read.bytes) w.source w'.source
     EndsMerging (Failed Disk) w w' = LeavesAllAlone w w' ⊎ Merges (Failed Disk) w w'
     EndsMerging (Failed Output) w w' = Merges (Failed Output) w w'
-    EndsMerging NoMemory w w' = LeavesAlone w w' ⊎ Merges NoMemory w w'
+    EndsMerging NoMemory w w' = LeavesDiskAndOut w w' ⊎ Merges NoMemory w w'
     EndsMerging (Refused (NotAShelf at)) w w' =
         LeavesAllAlone w w'
         × (world.disk.tells w.disk → IsNoShelfAt (world.disk.contents w.disk) at)
     EndsMerging (Refused (Capacity needed capacity)) w w' =
         Merges (Refused (Capacity needed capacity)) w w'
     EndsMerging (Refused (BadBundle flaw)) w w' =
-        LeavesAlone w w' × HasFlaw read.bytes flaw × AreAllTaken world.source read.bytes w.source w'.source
+        LeavesDiskAndOut w w' × HasFlaw read.bytes flaw × AreAllTaken world.source read.bytes w.source w'.source
     EndsMerging _ w w' = ⊥
 
 -- the whole call, over every disk

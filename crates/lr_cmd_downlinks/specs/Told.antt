@@ -20,11 +20,11 @@ pub record Receipted : Type 0 where
 abbrev pub receipted : List (List ℕ) → ℕ → List ℕ → Receipted
 receipted streams base order = record { streams = streams; base = base; order = order }
 
-abbrev pub receipts_of : Receipted → List ℕ
-receipts_of run = receipt_lines run.base run.order (length run.streams)
+abbrev pub receipt_lines_of : Receipted → List ℕ
+receipt_lines_of run = receipt_lines run.base run.order (length run.streams)
 
 abbrev pub all_lines_of : Receipted → List ℕ
-all_lines_of run = receipts_of run ++ last_line run.streams run.order
+all_lines_of run = receipt_lines_of run ++ last_line run.streams run.order
 
 module _ {O : Type 0} (out : SinkOf O) where
   -- all lines, or a part of them
@@ -35,7 +35,7 @@ module _ {O : Type 0} (out : SinkOf O) where
 
   -- the receipts, or a part of them
   abbrev pub TellsSome : Receipted → O → O → Type 0
-  TellsSome run o o' = Puts out (receipts_of run) o o' ⊎ PutFails out (receipts_of run) o o'
+  TellsSome run o o' = Puts out (receipt_lines_of run) o o' ⊎ PutFails out (receipt_lines_of run) o o'
 
   abbrev pub TellsEnd : RunEnd → Receipted → Cause → O → O → Type 0
   TellsEnd All run cause o o' = TellsAll run cause o o'

@@ -25,7 +25,7 @@ use Rattle.lr_cmd_receive.specs.Shelving.{AreAcknowledged, Stops, StopsInLines, 
 use Rattle.lr_reading.specs.Arrivals.{HasWholeFrame}
 use Rattle.lr_cmd_receive.specs.Onto.{ChangesFor, ChangesImagesFor}
 use Rattle.lr_shelf.specs.Adding.{StaysOutside}
-use Rattle.lr_cmd_receive.specs.Shelved.{AddsFiles, Grows, GrowsNoMore, ShelvesSoFar, HasShelved, StopsShelving}
+use Rattle.lr_cmd_receive.specs.Shelved.{AddsNotedFiles, Grows, GrowsNoMore, ShelvesSoFar, HasShelved, StopsShelving}
 use Rattle.lr_cmd_receive.specs.Shelved.{Gains, GainsNoMore, shelf_in, one_more}
 use Rattle.lr_cmd_receive.proofs.Acknowledging.{acknowledged_first, acknowledged_more}
 use Rattle.lr_cmd_receive.proofs.Causing.{first_later}
@@ -271,7 +271,7 @@ module _ {D O : Type 0} (world : OutletsOf D O) where
 
   -- ---- the files of one outcome
   module _ (mend : ℕ) (outcomes : List Outcome) (outcome : Outcome) (new : List NotedFile)
-      (adds : AddsFiles (one_more mend outcomes outcome) new) (shelf : Shelf) (w w' : Outlets D O) where
+      (adds : AddsNotedFiles (one_more mend outcomes outcome) new) (shelf : Shelf) (w w' : Outlets D O) where
     pub gained : {E : Type 0} (shelf' : Shelf) (result : Result (Unit {0}) E)
         → OnOk result (HasShelved world new (shelf_in shelf w) (shelf_in shelf' w'))
         → OnOk result (Gains world (one_more mend outcomes outcome) (shelf_in shelf w) (shelf_in shelf' w'))
@@ -304,7 +304,7 @@ module _ {E : Type 0} (mend : ℕ) (outcomes : List Outcome) (outcome : Outcome)
   -- with their fillers
   pub marked_add : (old new : Found) → old.files ≡ [] → old.fillers ≡ [] → (mend == 0) ≡ false
       → (result : Result (Unit {0}) E) → OnOk result (AddsMarked mend outcomes outcome old new)
-      → OnOk result (AddsFiles (one_more mend outcomes outcome) (noted_with new.files new.fillers))
+      → OnOk result (AddsNotedFiles (one_more mend outcomes outcome) (noted_with new.files new.fillers))
   marked_add old new no_files no_fillers mends (Ok done) adds =
       let files : new.files ≡ map placed_in adds.more =
       adds.files ∙ ap (λ (l : List Placed). l ++ map placed_in adds.more) no_files in
@@ -319,12 +319,13 @@ module _ {E : Type 0} (mend : ℕ) (outcomes : List Outcome) (outcome : Outcome)
   -- without them
   pub plain_add : (old new : List Placed) (fillers : List ℕ) → old ≡ [] → fillers ≡ [] → mend ≡ 0
       → (result : Result (Unit {0}) E) → OnOk result (AddsMended mend outcomes outcome old new)
-      → OnOk result (AddsFiles (one_more mend outcomes outcome) (noted_with new fillers))
+      → OnOk result (AddsNotedFiles (one_more mend outcomes outcome) (noted_with new fillers))
   plain_add old new fillers no_files no_fillers none (Ok done) adds =
-      subst (λ (n : ℕ). AddsFiles (one_more n outcomes outcome) (noted_with new fillers)) (sym none)
+      subst (λ (n : ℕ). AddsNotedFiles (one_more n outcomes outcome) (noted_with new fillers)) (sym none)
       (plain (subst (λ (n : ℕ). AddsMended n outcomes outcome old new) none adds))
     where
-      plain : AddsMended 0 outcomes outcome old new → AddsFiles (one_more 0 outcomes outcome) (noted_with new fillers)
+      plain : AddsMended 0 outcomes outcome old new → AddsNotedFiles (one_more 0 outcomes outcome)
+          (noted_with new fillers)
       plain adds =
           let files : new ≡ adds.more = adds.added ∙ ap (λ (l : List Placed). l ++ adds.more) no_files in
           plain_noted (outcomes ++ outcome ∷ []) ∙ ap (λ (l : List Placed). noted_with l []) adds.files

@@ -26,7 +26,7 @@ use Rattle.lr_cmd_receive.specs.Noted.{NotedFile, noted_of_outcomes}
 use Rattle.lr_cmd_receive.specs.Reception.{FewWait, ReadsAll, ReadsSome, taken_bytes, reception}
 use Rattle.lr_cmd_receive.specs.Shelved.{HasShelved, ShelvesSoFar, StopsShelving, Gains, GainsNoMore}
 use Rattle.lr_cmd_receive.specs.Shelved.{shelf_in, one_more}
-use Rattle.lr_cmd_receive.specs.ShelverTaken.{IsOnSame, ShelverTook, ShelverStopped, files_of_arrivals}
+use Rattle.lr_cmd_receive.specs.ShelverTaken.{HasSameParts, ShelverTook, ShelverStopped, files_of_arrivals}
 use Rattle.lr_cmd_receive.specs.ShelverTaken.{lent_to, mend_of}
 use Rattle.lr_layers.proofs.Pushing.{both_kinds}
 use Rattle.lr_cmd_receive.specs.Shelving.{AreAcknowledged, files_onto}
@@ -119,8 +119,8 @@ module _ {D O : Type 0} (disk : DiskOf D) (out : SinkOf O) where
               (took.shelved.shelved initial [] start so_far));
         }
 
-    module _ (arrival : Arrival) (now' : Shelver D O) (same : IsOnSame now now') where
-      both : IsOnSame before now'
+    module _ (arrival : Arrival) (now' : Shelver D O) (same : HasSameParts now now') where
+      both : HasSameParts before now'
       both = record {
         same_layers = same.same_layers ∙ took.on_same.same_layers;
         same_shelf = same.same_shelf ∙ took.on_same.same_shelf;

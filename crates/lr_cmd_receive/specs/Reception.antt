@@ -71,8 +71,8 @@ abbrev pub reception : ℕ → Input → ℕ → Leeway → Reception
 reception mend input limit leeway = record { mend = mend; input = input; limit = limit; leeway = leeway }
 
 -- the files of these bytes of it
-abbrev pub files_in : Reception → List ℕ → List NotedFile
-files_in how bytes = files_of_bytes how.mend how.input bytes
+abbrev pub noted_files_in : Reception → List ℕ → List NotedFile
+noted_files_in how bytes = files_of_bytes how.mend how.input bytes
 
 -- the bytes that were taken of an input, how many frames of them may wait, and how many fillers an image may have
 pub record TakenBytes : Type 0 where
@@ -111,16 +111,16 @@ module _ {S D O : Type 0} (world : World S D O) (how : Reception) where
     pub ends : ReadsInput world.source (input_read how.input how.limit bytes) sums.totals old.lent.source
         new.lent.source
     pub counts : numbers sums.counts ≡ mended_numbers_of how.mend (outcomes_of_bytes how.input bytes)
-    pub shelved : HasShelved (world_outlets world) (files_in how bytes)
+    pub shelved : HasShelved (world_outlets world) (noted_files_in how bytes)
         (shelf_in old.shelf (outlets_in old.lent)) (shelf_in new.shelf (outlets_in new.lent))
     pub in_time : WhenLastAsked world.source
-        (FilesComeInTime how.mend how.input how.leeway (files_in how bytes)) bytes old.lent.source new.lent.source
+        (FilesComeInTime how.mend how.input how.leeway (noted_files_in how bytes)) bytes old.lent.source new.lent.source
 
   -- shelving stopped among the files of these bytes
   pub record ReadsSome (cause : Cause) (old : ShelfIn (Outside S D O)) (w' : Outside S D O) : Type 0 where
     pub bytes : List ℕ
     pub read : IsRead world.source how.limit bytes old.lent.source w'.source
-    pub stopped : StopsShelving (world_outlets world) cause (files_in how bytes)
+    pub stopped : StopsShelving (world_outlets world) cause (noted_files_in how bytes)
         (shelf_in old.shelf (outlets_in old.lent)) (outlets_in w')
     -- more sharply: among these files, up to those of the last outcome
     pub files : List NotedFile
@@ -130,14 +130,14 @@ module _ {S D O : Type 0} (world : World S D O) (how : Reception) where
     pub first : (line : LineCode) → how.input ≡ Symbols line → world.source.tells old.lent.source
         → length bytes < how.limit
         → (Rose (world.source.faults old.lent.source) (world.source.faults w'.source) → ⊥)
-        → (rest : List NotedFile) × (files_in how (bytes ++ world.source.left w'.source) ≡ files ++ rest)
+        → (rest : List NotedFile) × (noted_files_in how (bytes ++ world.source.left w'.source) ≡ files ++ rest)
     pub timely : (initial : InitialShelf) (before : Outlets D O)
         → ShelvesSoFar (world_outlets world) initial [] before (shelf_in old.shelf (outlets_in old.lent))
         → FewWait (world_outlets world) initial (taken_bytes how.mend how.input how.leeway bytes) before (outlets_in w')
     pub in_time : (initial : InitialShelf) (before : Outlets D O)
         → ShelvesSoFar (world_outlets world) initial [] before (shelf_in old.shelf (outlets_in old.lent))
         → WhenLastAsked world.source (AreInTime (world_outlets world)
-        (files_onto initial (files_in how bytes)) how.mend how.input how.leeway before (outlets_in w')) bytes
+        (files_onto initial (noted_files_in how bytes)) how.mend how.input how.leeway before (outlets_in w')) bytes
         old.lent.source w'.source
 
   -- how a run ends that took some bytes, whatever shelf it was onto, and what a crash may leave of it
@@ -153,14 +153,14 @@ module _ {S D O : Type 0} (world : World S D O) (how : Reception) where
         → CountsTell SourceBesides cause (counts_in world old.lent) (counts_in world w')
     pub ends : (initial : InitialShelf) (before : Outlets D O)
         → ShelvesSoFar (world_outlets world) initial [] before (shelf_in old.shelf (outlets_in old.lent))
-        → LeavesPrefixes world.disk initial (placed_files (files_in how bytes)) before.disk w'.disk
+        → LeavesPrefixes world.disk initial (placed_files (noted_files_in how bytes)) before.disk w'.disk
         × Ends world (run_onto initial (intake how.mend (input_read how.input how.limit bytes))) cause
         (outside old.lent.source before.disk before.out) w'
         × FewWait (world_outlets world) initial (taken_bytes how.mend how.input how.leeway bytes) before (outlets_in w')
         × WhenLastAsked world.source (AreInTime (world_outlets world)
-        (files_onto initial (files_in how bytes)) how.mend how.input how.leeway before (outlets_in w')) bytes
+        (files_onto initial (noted_files_in how bytes)) how.mend how.input how.leeway before (outlets_in w')) bytes
         old.lent.source w'.source
-    pub over : EndsOver cause (placed_files (files_in how bytes)) (shelf_in old.shelf (outlets_in old.lent))
+    pub over : EndsOver cause (placed_files (noted_files_in how bytes)) (shelf_in old.shelf (outlets_in old.lent))
         (outlets_in w')
     pub ended : IsWorkDone cause → (stop : Stop) × (cause ≡ cause_at stop)
         × DoesWork world (work_done (intake how.mend (input_read how.input how.limit bytes)) (length
@@ -170,8 +170,8 @@ module _ {S D O : Type 0} (world : World S D O) (how : Reception) where
         (run_from (intake how.mend (input_read how.input how.limit bytes)) (length (way_in old).entries)) cause
         old.lent w'
     pub outside : world.disk.tells old.lent.disk
-        → ChangesFor (way_in old) (placed_files (files_in how bytes)) (world.disk.contents old.lent.disk)
+        → ChangesFor (way_in old) (placed_files (noted_files_in how bytes)) (world.disk.contents old.lent.disk)
         (world.disk.contents w'.disk)
     pub moments : world.disk.tells old.lent.disk → NothingPending world.disk old.lent.disk
         → (w'.disk ≡ old.lent.disk)
-        ⊎ ChangesImagesFor world.disk (way_in old) (placed_files (files_in how bytes)) old.lent.disk w'.disk
+        ⊎ ChangesImagesFor world.disk (way_in old) (placed_files (noted_files_in how bytes)) old.lent.disk w'.disk

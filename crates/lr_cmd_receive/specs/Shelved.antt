@@ -49,17 +49,17 @@ abbrev pub way_in : {W : Type 0} → ShelfIn W → Way
 way_in at = (kept_by at.shelf).way
 
 -- outcomes, and the one after them, where an image has at most `mend` fillers
-pub record OneMore : Type 0 where
+pub record OutcomeMore : Type 0 where
   pub mend : ℕ
   pub earlier : List Outcome
   pub outcome : Outcome
 
-abbrev pub one_more : ℕ → List Outcome → Outcome → OneMore
+abbrev pub one_more : ℕ → List Outcome → Outcome → OutcomeMore
 one_more mend earlier outcome = record { mend = mend; earlier = earlier; outcome = outcome }
 
 -- the last one adds these files
-abbrev pub AddsFiles : OneMore → List NotedFile → Type 0
-AddsFiles one files = noted_of_outcomes one.mend (one.earlier ++ one.outcome ∷ [])
+abbrev pub AddsNotedFiles : OutcomeMore → List NotedFile → Type 0
+AddsNotedFiles one files = noted_of_outcomes one.mend (one.earlier ++ one.outcome ∷ [])
     ≡ noted_of_outcomes one.mend one.earlier ++ files
 
 -- over every disk: these files were shelved, and the shelf in memory ends after them
@@ -138,14 +138,14 @@ module _ {D O : Type 0} (world : OutletsOf D O) where
         (placed_files files) old.lent.disk w'.disk
 
   -- the files that one outcome more adds were shelved
-  pub record Gains (one : OneMore) (old new : ShelfIn (Outlets D O)) : Type 0 where
+  pub record Gains (one : OutcomeMore) (old new : ShelfIn (Outlets D O)) : Type 0 where
     pub more : List NotedFile
-    pub files : AddsFiles one more
+    pub files : AddsNotedFiles one more
     pub shelved : HasShelved more old new
 
   -- they were not all
-  pub record GainsNoMore (cause : Cause) (one : OneMore) (old : ShelfIn (Outlets D O)) (w' : Outlets D O) : Type 0
+  pub record GainsNoMore (cause : Cause) (one : OutcomeMore) (old : ShelfIn (Outlets D O)) (w' : Outlets D O) : Type 0
     where
       pub more : List NotedFile
-      pub files : AddsFiles one more
+      pub files : AddsNotedFiles one more
       pub stopped : StopsShelving cause more old w'

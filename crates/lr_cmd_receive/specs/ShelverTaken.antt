@@ -12,7 +12,7 @@ use Rattle.lr_cmd_receive.specs.Shelving.{AreAcknowledged, files_onto}
 use Rattle.lr_shelf.specs.InitialShelves.{InitialShelf}
 
 -- the layers, the shelf, the disk and `out` are those that it had
-pub record IsOnSame {D O : Type 0} (before now : Shelver D O) : Type 0 where
+pub record HasSameParts {D O : Type 0} (before now : Shelver D O) : Type 0 where
   pub same_layers : now.layers.ghost_name ≡ before.layers.ghost_name
   pub same_shelf : now.shelf.ghost_name ≡ before.shelf.ghost_name
   pub same_disk : now.disk.ghost_name ≡ before.disk.ghost_name
@@ -38,7 +38,7 @@ module _ {D O : Type 0} (world : OutletsOf D O) where
   -- the files of these outcomes were shelved, and what the layers counted is known
   pub record ShelverTook (before : Shelver D O) (arrivals : List Arrival)
       (now : Shelver D O) : Type 0 where
-    pub on_same : IsOnSame before now
+    pub on_same : HasSameParts before now
     pub stands : MendingLayersStandFor (mend_of before) now.layers.now (outcomes_of_arrivals arrivals)
     pub counted : numbers now.counts ≡ now.layers.now.numbers
     pub mends : now.mends ≡ not (mend_of now == 0)
@@ -47,7 +47,7 @@ module _ {D O : Type 0} (world : OutletsOf D O) where
   -- they were not all shelved
   pub record ShelverStopped (before : Shelver D O) (arrivals : List Arrival)
       (cause : Cause) (now : Shelver D O) : Type 0 where
-    pub on_same : IsOnSame before now
+    pub on_same : HasSameParts before now
     pub stopped : StopsShelving world cause (files_of_arrivals (mend_of before) arrivals) (shelf_of before)
         (lent_to now)
     -- but those of all arrivals save perhaps the last one are acknowledged

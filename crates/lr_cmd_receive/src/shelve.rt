@@ -5,7 +5,7 @@ ghost use Rattle.lr_layers.specs.Standing.{MendingLayersStandFor};
 ghost use Rattle.lr_reading.specs.Arrivals.{HasWholeFrame};
 ghost use Rattle.lr_cmd_receive.specs.Noted.{noted_file, noted_with};
 ghost use Rattle.lr_cmd_receive.specs.Shelved.{
-  AddsFiles,
+  AddsNotedFiles,
   Gains,
   GainsNoMore,
   HasShelved,
@@ -97,7 +97,7 @@ fn take_files(
     ensures stands { (mend : ℕ) (outcomes : List Outcome') → MendingLayersStandFor mend layers.old outcomes
         → OnOk result (MendingLayersStandFor mend layers.new (outcomes ++ outcome.now ∷ [])) }
     ensures adds { (mend : ℕ) (outcomes : List Outcome') → MendingLayersStandFor mend layers.old outcomes
-        → OnOk result (AddsFiles (one_more mend outcomes outcome.now)
+        → OnOk result (AddsNotedFiles (one_more mend outcomes outcome.now)
         (noted_with ended.new.files.items ended.new.fillers.items)) }
 {
     ended.files.clear();

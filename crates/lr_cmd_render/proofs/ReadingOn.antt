@@ -16,9 +16,10 @@ use Rattle.lr_cmd_render.specs.Render.{render_query}
 use Rattle.lr_cmd_shelf.specs.Steps.{ReadsOnly}
 use Rattle.lr_rounds.specs.JobSources.{led}
 use Rattle.lr_cmd_render.specs.Contents.{IsContent, IsRefusedAt}
-use Rattle.lr_cmd_render.specs.Leading.{Ahead, RenderGoes, HasStripJobs, Imageless, IsTally, IsContentTaken, MayWait}
+use Rattle.lr_cmd_render.specs.Leading.{Ahead, RenderGoes, HasStripJobs}
+use Rattle.lr_cmd_render.specs.Leading.{Imageless, IsTally, IsContentTaken, RefusalMayWait}
 use Rattle.lr_cmd_render.specs.Leading.{OnlyReadsDisk, Pending, ReadsOne, Settles, AheadStandsAt, TakesIn, Vacant}
-use Rattle.lr_cmd_render.specs.Leading.{count_in, images_under_way, refusals_left, settled_to, way_in}
+use Rattle.lr_cmd_render.specs.Leading.{count_in, images_under_way, refusals_left, settled_to, way_of_source}
 use Rattle.lr_cmd_render.specs.Queues.{AllGiven, FirstWaits, all_left, image_of}
 use Rattle.lr_cmd_render.specs.declared.content.Content.{Content}
 use Rattle.lr_cmd_render.specs.declared.content.Content.TheVariants.{Gone, NoImage, Image}
@@ -36,7 +37,7 @@ module _ {D O : Type 0} (disk : DiskOf D) (out : SinkOf O) where
       {start before : RenderSource D O} {jobs : List StripSource} {kept : ℕ}
       (goes : RenderGoes disk out (led start jobs kept) before) where
     abbrev way : Way
-    way = way_in start
+    way = way_of_source start
 
     abbrev d : D
     d = start.disk.now
@@ -45,7 +46,7 @@ module _ {D O : Type 0} (disk : DiskOf D) (out : SinkOf O) where
 
     -- what was found on the disk as it is was there from the start
     found_at_start : {A : Type 0} (found : List ℕ → Way → A → Type 0) (a : A)
-        → (disk.tells before.disk.now → found (disk.contents before.disk.now) (way_in before) a) → disk.tells d
+        → (disk.tells before.disk.now → found (disk.contents before.disk.now) (way_of_source before) a) → disk.tells d
         → found (disk.contents d) way a
     found_at_start found a there t =
         subst (λ (b : List ℕ). found b way a) (goes.reads.only_read.unwritten t).contents
@@ -91,7 +92,7 @@ module _ {D O : Type 0} (disk : DiskOf D) (out : SinkOf O) where
             (sym out_is)
             (with_gathers disk out render_query way (record { from = 0; to = count_in start }) d start.out.now
             goes.settled before.out.now goes.settles (tally goes.settles.read goes.settles.gathered));
-        refusal = subst (MayWait disk way d now.next) (sym none) tt;
+        refusal = subst (RefusalMayWait disk way d now.next) (sym none) tt;
         has_jobs = subst (λ (n : ℕ). HasStripJobs jobs kept n (goes.ahead ++ one ∷ []) (images_under_way now))
             (sym next_is)
             has;
@@ -106,7 +107,8 @@ module _ {D O : Type 0} (disk : DiskOf D) (out : SinkOf O) where
         images_are images is next ahead has = subst (HasStripJobs jobs kept next ahead) (sym is) has
 
         pub reads_content : (content : Content)
-            → IsContent disk (way_in before) before.next before.disk.now content → IsContentTaken content before now
+            → IsContent disk (way_of_source before) before.next before.disk.now content
+                → IsContentTaken content before now
             → AllGiven (images_under_way before) → RenderGoes disk out (led start jobs kept) now
         reads_content Gone gone taken given =
             reads_one next_is none there Vacant
@@ -191,7 +193,7 @@ module _ {D O : Type 0} (disk : DiskOf D) (out : SinkOf O) where
       -- or it is refused, and that waits
       pub reads_refusal : now.next ≡ before.next → now.tally ≡ before.tally
           → images_under_way now ≡ images_under_way before → before.next < count_in start → (refusal : Refusal)
-          → now.refusal ≡ Some refusal → IsRefusedAt disk (way_in before) before.next before.disk.now refusal
+          → now.refusal ≡ Some refusal → IsRefusedAt disk (way_of_source before) before.next before.disk.now refusal
           → RenderGoes disk out (led start jobs kept) now
       reads_refusal next_is tally_is images_are there refusal is refused = record {
         same_disk = disk_name ∙ goes.same_disk;
@@ -207,7 +209,7 @@ module _ {D O : Type 0} (disk : DiskOf D) (out : SinkOf O) where
             (subst (λ (t : Tally). Settles disk out start (settled_to goes.ahead t goes.settled) before.out.now)
             (sym tally_is)
             goes.settles);
-        refusal = subst (MayWait disk way d now.next) (sym is) (
+        refusal = subst (RefusalMayWait disk way d now.next) (sym is) (
           omega (arith, next_is, there),
           subst (λ (n : ℕ). IsRefusedAt disk way n d refusal) (sym next_is) (record {
             seen = refused.seen;
@@ -276,7 +278,7 @@ module _ {D O : Type 0} (disk : DiskOf D) (out : SinkOf O) where
     more_there : before.next < count_in start
     more_there = omega (arith, more, count_is disk out goes)
 
-    pub takes_goes : IsContent disk (way_in before) before.next before.disk.now content
+    pub takes_goes : IsContent disk (way_of_source before) before.next before.disk.now content
         → AllGiven (images_under_way before) → RenderGoes disk out (led start jobs kept) now
     takes_goes found given =
         reads_content reads_on goes now (ap (λ (r : _). r.ghost_name) takes.disk ∙ disk_name)

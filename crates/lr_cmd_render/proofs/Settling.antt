@@ -19,7 +19,7 @@ use Rattle.lr_cmd_render.specs.Render.{image_text, images_in, is_image, render_q
 use Rattle.lr_cmd_shelf.proofs.Filing.{files_of-absent, files_of-whole}
 use Rattle.lr_cmd_shelf.proofs.Taking.{so_more}
 use Rattle.lr_cmd_render.specs.Leading.{Ahead, AreAhead, Imageless, IsTally, Pending, Settles, settled_to}
-use Rattle.lr_cmd_render.specs.Leading.{AheadStandsAt, Vacant, count_in, imageless_in, pending_in, way_in}
+use Rattle.lr_cmd_render.specs.Leading.{AheadStandsAt, Vacant, count_in, imageless_in, pending_in, way_of_source}
 use Rattle.lr_cmd_render.specs.Outcomes.{tally_with}
 use Rattle.lr_cmd_render.specs.declared.render_source.RenderSource.{RenderSource}
 use Rattle.lr_cmd_render.specs.declared.tally.Tally.{Tally}
@@ -80,7 +80,7 @@ tally_pending stored (Err fault) rest tally read is =
 
 module _ {D O : Type 0} (disk : DiskOf D) (out : SinkOf O) (start : RenderSource D O) where
   abbrev way : Way
-  way = way_in start
+  way = way_of_source start
 
   abbrev d : D
   d = start.disk.now

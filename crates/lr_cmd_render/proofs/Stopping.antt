@@ -31,8 +31,8 @@ use Rattle.lr_cmd_shelf.proofs.Texts.{disk_counts, quiet_counts, stops_seen, tex
 use Rattle.lr_rounds.specs.JobSources.{EndsWell, led}
 use Rattle.lr_cmd_render.specs.Contents.{ReadStops}
 use Rattle.lr_cmd_render.specs.Leading.{Ahead, RenderGoes, HasStripJobs, IsRenderOver, IsSameBut, IsTally, MayBeLed}
-use Rattle.lr_cmd_render.specs.Leading.{MayWait, Pending, Settles, Stands, StopsFor, count_in, images_under_way}
-use Rattle.lr_cmd_render.specs.Leading.{render_terms, settled_to, way_in}
+use Rattle.lr_cmd_render.specs.Leading.{RefusalMayWait, Pending, Settles, Stands, StopsFor, count_in, images_under_way}
+use Rattle.lr_cmd_render.specs.Leading.{render_terms, settled_to, way_of_source}
 use Rattle.lr_cmd_render.specs.Outcomes.{OutcomeStops}
 use Rattle.lr_cmd_render.specs.Queues.{FirstWaits, TakesFirst, files_under_way}
 use Rattle.lr_cmd_render.specs.declared.render_source.RenderSource.{RenderSource}
@@ -57,7 +57,7 @@ module _ {D O : Type 0} (disk : DiskOf D) (out : SinkOf O) where
         → IsOnlyRead disk start.disk.now now.disk.now
         → (ahead : List Ahead) (tally : Tally) (number : ℕ) (o1 : O) → number < count_in start
         → (so : Settles disk out start (settled_to ahead tally number) o1) → (cause : Cause)
-        → EntryStops (outlets_of disk out) (standing_at render_query (way_in start) so.read number) cause
+        → EntryStops (outlets_of disk out) (standing_at render_query (way_of_source start) so.read number) cause
         (outlets start.disk.now o1)
         (outlets now.disk.now now.out.now)
         → CountsTell NoneBesides cause (outlet_counts (outlets_of disk out) (outlets start.disk.now o1))
@@ -67,7 +67,7 @@ module _ {D O : Type 0} (disk : DiskOf D) (out : SinkOf O) where
         = record {
           same_disk = disk_name ∙ goes.same_disk;
           same_out = out_name ∙ goes.same_out;
-          runs = entry_stopped disk out render_query (way_in start) start.disk.now start.out.now
+          runs = entry_stopped disk out render_query (way_of_source start) start.disk.now start.out.now
               (record { from = 0; to = count_in start }) refl (IsTally ahead tally) number start.disk.now o1
               now.out.now
               so (λ t. t) (λ t. t) (only_read_yet disk only_now start.disk.now (reads_none start.disk.now)) refl
@@ -98,7 +98,7 @@ module _ {D O : Type 0} (disk : DiskOf D) (out : SinkOf O) where
         stops_with now (ap (λ (r : _). r.ghost_name) disk_is) out_name reads.told reads.untold reads.only_read
         (Pending first.stored ∷ first.rest) before.tally first.number before.out.now
         (first_there disk out goes plan mid same takes) first.settles cause
-        (stops_seen disk out render_query (way_in start) first.settles.read first.number start.disk.now
+        (stops_seen disk out render_query (way_of_source start) first.settles.read first.number start.disk.now
         now.disk.now before.out.now now.out.now (Some (Whole opened))
         (λ t. (first.stands t, subst (λ (f : File). HasOutcome f stops.outcome) (sym first.file_is) stops.has)) cause
         stops.stops)
@@ -109,7 +109,7 @@ module _ {D O : Type 0} (disk : DiskOf D) (out : SinkOf O) where
     pub read_stops : (now : RenderSource D O) → now.disk.ghost_name ≡ before.disk.ghost_name
         → now.out ≡ before.out → ReadsOnly disk before.shelf now.shelf before.disk.now now.disk.now
         → before.next < count_in start → (cause : Cause) → ((refusal : Refusal) → cause ≡ Refused refusal → ⊥)
-        → ReadStops disk (way_in before) before.next cause before.disk.now now.disk.now
+        → ReadStops disk (way_of_source before) before.next cause before.disk.now now.disk.now
         → StopsFor disk out start cause now
     read_stops now disk_name out_is only there cause other stops =
         stops_with now disk_name (ap (λ (r : _). r.ghost_name) out_is) (λ t. only.told (goes.reads.told t))
@@ -123,9 +123,9 @@ module _ {D O : Type 0} (disk : DiskOf D) (out : SinkOf O) where
         still = ap (λ (r : _). r.now) out_is
 
         stays : (cause : Cause) → ((refusal : Refusal) → cause ≡ Refused refusal → ⊥)
-            → ReadStops disk (way_in before) before.next cause before.disk.now now.disk.now
+            → ReadStops disk (way_of_source before) before.next cause before.disk.now now.disk.now
             → EntryStops (outlets_of disk out)
-            (standing_at render_query (way_in start) goes.settles.read goes.settled) cause
+            (standing_at render_query (way_of_source start) goes.settles.read goes.settled) cause
             (outlets start.disk.now before.out.now) (outlets now.disk.now now.out.now)
         stays Done other stops = absurd stops
         stays (DoneWith note) other stops = absurd stops
@@ -137,7 +137,7 @@ module _ {D O : Type 0} (disk : DiskOf D) (out : SinkOf O) where
         stays (Refused refusal) other stops = absurd (other refusal refl)
 
         counted : (cause : Cause) → ((refusal : Refusal) → cause ≡ Refused refusal → ⊥)
-            → ReadStops disk (way_in before) before.next cause before.disk.now now.disk.now
+            → ReadStops disk (way_of_source before) before.next cause before.disk.now now.disk.now
             → CountsTell NoneBesides cause (outlet_counts (outlets_of disk out)
             (outlets start.disk.now before.out.now))
             (outlet_counts (outlets_of disk out) (outlets now.disk.now now.out.now))
@@ -166,8 +166,8 @@ module _ {D O : Type 0} (disk : DiskOf D) (out : SinkOf O) where
     pub refusal_stops : (refusal : Refusal) → before.refusal ≡ Some refusal → images_under_way before ≡ []
         → StopsFor disk out start (Refused refusal) before
     refusal_stops refusal is none =
-        let waits : MayWait disk (way_in start) start.disk.now before.next (Some refusal) =
-        subst (MayWait disk (way_in start) start.disk.now before.next) is goes.refusal in
+        let waits : RefusalMayWait disk (way_of_source start) start.disk.now before.next (Some refusal) =
+        subst (RefusalMayWait disk (way_of_source start) start.disk.now before.next) is goes.refusal in
         let so = settles_all none in
         stops_with before refl refl goes.reads.told goes.reads.untold goes.reads.only_read [] before.tally before.next
         before.out.now waits.0 so (Refused refusal)
@@ -178,7 +178,7 @@ module _ {D O : Type 0} (disk : DiskOf D) (out : SinkOf O) where
     -- ---- all was put
 
     pub ends_run : images_under_way before ≡ [] → count_in before ≤ before.next
-        → RunsOn (outlets_of disk out) (query_on render_query (way_in start))
+        → RunsOn (outlets_of disk out) (query_on render_query (way_of_source start))
         (DoneWith (Rendered before.tally.images before.tally.skipped)) (outlets start.disk.now start.out.now)
         (outlets before.disk.now before.out.now)
     ends_run none all =
@@ -186,7 +186,7 @@ module _ {D O : Type 0} (disk : DiskOf D) (out : SinkOf O) where
         let images : before.tally.images ≡ images_in (files_of so.read) = so.gathered.images in
         let skipped : before.tally.skipped ≡ skipped_in (files_of so.read) =
         omega (arith, so.gathered.skipped) in
-        last_taken disk out render_query (way_in start) start.disk.now start.out.now
+        last_taken disk out render_query (way_of_source start) start.disk.now start.out.now
         (record { from = 0; to = count_in start }) refl (IsTally [] before.tally) before.next before.disk.now
         before.out.now before.out.now so goes.reads.told goes.reads.untold goes.reads.only_read goes.reads.faults
         goes.inside
@@ -253,13 +253,13 @@ module _ {D O : Type 0} (disk : DiskOf D) (out : SinkOf O) where
       are_ahead = tt;
       reached = omega (arith, next_is);
       inside = omega (arith, next_is);
-      settles = so_first disk out render_query (way_in source) (record { from = 0; to = count_in source })
+      settles = so_first disk out render_query (way_of_source source) (record { from = 0; to = count_in source })
           source.disk.now
           source.out.now (IsTally [] source.tally) (record {
             images = ap (λ (t : Tally). t.images) tally_is;
             skipped = omega (arith, ap (λ (t : Tally). t.skipped) tally_is);
           });
-      refusal = subst (MayWait disk (way_in source) source.disk.now source.next) (sym no_refusal) tt;
+      refusal = subst (RefusalMayWait disk (way_of_source source) source.disk.now source.next) (sym no_refusal) tt;
       has_jobs = subst (HasStripJobs [] 0 source.next []) (sym none) (record {
         each = tt;
         only_last = tt;
@@ -311,5 +311,5 @@ module _ {D O : Type 0} (disk : DiskOf D) (out : SinkOf O) where
       (record {
         same_disk = refl;
         same_out = refl;
-        runs = nothing_put only_now reads_none (way_in start) start.disk.now start.out.now;
+        runs = nothing_put only_now reads_none (way_of_source start) start.disk.now start.out.now;
       })

@@ -23,9 +23,10 @@ use Rattle.lr_cmd_shelf.specs.Reached.{SoFar, entries_run}
 use Rattle.lr_rounds.specs.JobSources.{IsDoneNext, led}
 use Rattle.lr_cmd_render.specs.declared.sizes.TheConstants.{MOST_ENTRIES, MOST_STRIPS}
 use Rattle.lr_cmd_render.specs.Leading.{Ahead, AreAhead, RenderGoes, HasStripJobs, Imageless, IsSameBut, IsTally}
-use Rattle.lr_cmd_render.specs.Leading.{MayWait, OnlyReadsDisk, Pending, PutsImages, Settles, AheadStandsAt, Vacant}
+use Rattle.lr_cmd_render.specs.Leading.{RefusalMayWait, OnlyReadsDisk, Pending}
+use Rattle.lr_cmd_render.specs.Leading.{PutsImages, Settles, AheadStandsAt, Vacant}
 use Rattle.lr_cmd_render.specs.Leading.{count_in, images_under_way, imageless_in, jobs_left, pending_in, settled_to}
-use Rattle.lr_cmd_render.specs.Leading.{way_in}
+use Rattle.lr_cmd_render.specs.Leading.{way_of_source}
 use Rattle.lr_cmd_render.specs.Outcomes.{PutsOutcome, tally_with}
 use Rattle.lr_cmd_render.specs.Queues.{AllGiven, FirstKeeps, FirstWaits, LastGives, TakesFirst, all_left}
 use Rattle.lr_cmd_render.specs.Queues.{files_under_way}
@@ -126,7 +127,7 @@ module _ {D O : Type 0} (disk : DiskOf D) (out : SinkOf O) where
   module _ {start before : RenderSource D O} {jobs : List StripSource} {kept : ℕ}
       (goes : RenderGoes disk out (led start jobs kept) before) where
     abbrev way : Way
-    way = way_in start
+    way = way_of_source start
 
     abbrev d : D
     d = start.disk.now
@@ -178,8 +179,8 @@ module _ {D O : Type 0} (disk : DiskOf D) (out : SinkOf O) where
       reached = reached ∙ sym same.next;
       inside = subst (λ (n : ℕ). n ≤ count_in start) (sym same.next) goes.inside;
       settles = settles;
-      refusal = subst (λ (n : ℕ). MayWait disk way d n now.refusal) (sym same.next)
-          (subst (λ (r : Option Refusal). MayWait disk way d before.next r) (sym same.refusal)
+      refusal = subst (λ (n : ℕ). RefusalMayWait disk way d n now.refusal) (sym same.next)
+          (subst (λ (r : Option Refusal). RefusalMayWait disk way d before.next r) (sym same.refusal)
           goes.refusal);
       has_jobs = subst (λ (n : ℕ). HasStripJobs jobs' kept' n ahead (images_under_way now)) (sym same.next) has;
       counted = subst (λ (n : ℕ). now.tally.images + now.tally.skipped + length (images_under_way now) ≤ n)

@@ -68,9 +68,9 @@ module _ {D : Type 0} (disk : DiskOf D) (way : Way) (d : D) where
   AreAhead number (one ∷ ahead) = AheadStandsAt number one × AreAhead (number + 1) ahead
 
   -- what waits to be refused is refused at the entry of this number
-  abbrev pub MayWait : ℕ → Option Refusal → Type 0
-  MayWait number None = Unit {0}
-  MayWait number (Some refusal) = (number < length way.entries) × IsRefusedAt disk way number d refusal
+  abbrev pub RefusalMayWait : ℕ → Option Refusal → Type 0
+  RefusalMayWait number None = Unit {0}
+  RefusalMayWait number (Some refusal) = (number < length way.entries) × IsRefusedAt disk way number d refusal
 
 -- how far the entries are settled: up to this number. Those after it were read ahead, and this was counted
 pub record Settled : Type 0 where
@@ -103,12 +103,12 @@ refusals_left None = 1
 refusals_left (Some refusal) = 0
 
 module _ {D O : Type 0} where
-  abbrev pub way_in : RenderSource D O → Way
-  way_in source = (kept_by source.shelf).way
+  abbrev pub way_of_source : RenderSource D O → Way
+  way_of_source source = (kept_by source.shelf).way
 
   -- how many entries there are
   abbrev pub count_in : RenderSource D O → ℕ
-  count_in source = length (way_in source).entries
+  count_in source = length (way_of_source source).entries
 
   abbrev pub images_under_way : RenderSource D O → List UnderWay
   images_under_way source = source.queue.images.items
@@ -185,7 +185,8 @@ module _ {D O : Type 0} (disk : DiskOf D) (out : SinkOf O) where
   -- so far the entries are settled: the texts of their images were put
   abbrev pub Settles : RenderSource D O → Settled → O → Type 0
   Settles start so_far o =
-      SoFar (outlets_of disk out) (entries_run render_query (way_in start) (record { from = 0; to = count_in start })
+      SoFar (outlets_of disk out) (entries_run render_query (way_of_source start)
+          (record { from = 0; to = count_in start })
       (IsTally so_far.ahead so_far.tally)) (outlets start.disk.now start.out.now) so_far.number o
 
   -- the job source was the first one, has given the jobs led, and kept what came of those kept
@@ -196,11 +197,11 @@ module _ {D O : Type 0} (disk : DiskOf D) (out : SinkOf O) where
     pub reads : OnlyReadsDisk led.start now
     pub ahead : List Ahead
     pub settled : ℕ
-    pub are_ahead : AreAhead disk (way_in led.start) led.start.disk.now settled ahead
+    pub are_ahead : AreAhead disk (way_of_source led.start) led.start.disk.now settled ahead
     pub reached : settled + length ahead ≡ now.next
     pub inside : now.next ≤ count_in led.start
     pub settles : Settles led.start (settled_to ahead now.tally settled) now.out.now
-    pub refusal : MayWait disk (way_in led.start) led.start.disk.now now.next now.refusal
+    pub refusal : RefusalMayWait disk (way_of_source led.start) led.start.disk.now now.next now.refusal
     pub has_jobs : HasStripJobs led.jobs led.kept now.next ahead (images_under_way now)
     pub counted : now.tally.images + now.tally.skipped + length (images_under_way now) ≤ now.next
     pub room : 0 < deque_capacity now.queue.images
@@ -214,7 +215,7 @@ module _ {D O : Type 0} (disk : DiskOf D) (out : SinkOf O) where
   pub record StopsFor (start : RenderSource D O) (cause : Cause) (now : RenderSource D O) : Type 0 where
     pub same_disk : now.disk.ghost_name ≡ start.disk.ghost_name
     pub same_out : now.out.ghost_name ≡ start.out.ghost_name
-    pub runs : RunsOn (outlets_of disk out) (query_on render_query (way_in start)) cause
+    pub runs : RunsOn (outlets_of disk out) (query_on render_query (way_of_source start)) cause
         (outlets start.disk.now start.out.now) (outlets now.disk.now now.out.now)
 
   -- the terms on which it gives strips and keeps what is rendered

@@ -25,7 +25,7 @@ use Rattle.lr_lock.specs.Symbols.{symbols_of}
 use Rattle.lr_lock.specs.Windows.{WindowView, window_view}
 use Rattle.lr_lock.specs.declared.frame.Frame.{Frame}
 use Rattle.lr_downlinks.specs.Decoding.{FeedsMore, DecodesOn, IsDecodedSoFar, IsFed, ShowsWindow}
-use Rattle.lr_downlinks.specs.Decoding.{outcomes_given, decode_steps_left, coded_stream, given_by}
+use Rattle.lr_downlinks.specs.Decoding.{outcomes_given, decode_steps_left, coded_stream, given_frames}
 use Rattle.lr_downlinks.specs.Streams.{files_of_stream}
 use Rattle.lr_downlinks.specs.declared.sizes.TheConstants.{MOST_STREAM_SYMBOLS}
 
@@ -41,12 +41,12 @@ module _ (line : LineCode) (stream : List ℕ) where
   -- ---- feeding
 
   module _ (fed : ℕ) (given : List Frame) (now : ℕ) (lock : LockState) (on : DecodesOn (coded_stream line stream)
-      (given_by fed given) now lock)
+      (given_frames fed given) now lock)
       (later : LockState) (line_stays : later.line ≡ lock.line) (finished : later.finished ≡ lock.finished) where
     -- it wants more
     pub wanted : WantsMore (record { before = lock; later = later }) (symbols_of (take now stream)) given
         → length later.kept ≤ length lock.kept
-        → DecodesOn (coded_stream line stream) (given_by fed given) now later
+        → DecodesOn (coded_stream line stream) (given_frames fed given) now later
     wanted wants passes = record {
       is_fed = record {
         inside = on.is_fed.inside;
@@ -61,7 +61,7 @@ module _ (line : LineCode) (stream : List ℕ) where
     pub window_shown : (seen : WindowView)
         → GivesWindow (record { before = lock; later = later }) seen (symbols_of (take now stream)) given
         → length later.kept + FRAME_SYMBOLS ≤ length lock.kept
-        → ShowsWindow (coded_stream line stream) (given_by fed given) later seen (Some now)
+        → ShowsWindow (coded_stream line stream) (given_frames fed given) later seen (Some now)
     window_shown seen gives shorter = (
       gives.frame,
       record {
@@ -78,7 +78,7 @@ module _ (line : LineCode) (stream : List ℕ) where
 
     pub all_shown : (seen : WindowView)
         → HasEnded (record { before = lock; later = later }) (symbols_of (take now stream)) given
-        → ShowsWindow (coded_stream line stream) (given_by fed given) later seen None
+        → ShowsWindow (coded_stream line stream) (given_frames fed given) later seen None
     all_shown seen ended =
         let whole : now ≡ length stream = on.is_fed.ended ended.closed in
         let all : AreFrames (tail_of line) (symbols_of (take now stream)) given =
@@ -86,7 +86,7 @@ module _ (line : LineCode) (stream : List ℕ) where
         ended.all in (
           subst (λ (l : List ℕ). AreFrames (tail_of line) (symbols_of l) given)
               (ap (λ (n : ℕ). take n stream) whole ∙ take_all (length stream) stream (omega arith)) all,
-          ap (λ (n : ℕ). outcomes_given (coded_stream line stream) (given_by n given)) (sym whole) ∙ on.same,
+          ap (λ (n : ℕ). outcomes_given (coded_stream line stream) (given_frames n given)) (sym whole) ∙ on.same,
         )
 
   -- what the finish counts
@@ -131,20 +131,20 @@ module _ (line : LineCode) (stream : List ℕ) where
 
   -- symbols are fed, or the lock is finished
   pub fed_on : (fed : ℕ) (given : List Frame) (now : ℕ) (lock : LockState)
-      → DecodesOn (coded_stream line stream) (given_by fed given) now lock
+      → DecodesOn (coded_stream line stream) (given_frames fed given) now lock
       → lock.finished ≡ false → (new : LockState) (size : ℕ) → FeedsMore lock new (drop now stream) size
-      → DecodesOn (coded_stream line stream) (given_by fed given) (now + size) new
+      → DecodesOn (coded_stream line stream) (given_frames fed given) (now + size) new
   unfolding outcomes_given
   fed_on fed given now lock on unfinished new size more =
       by_size (cases_lt 0 size)
     where
-      is : IsFed (coded_stream line stream) (given_by now given) lock
+      is : IsFed (coded_stream line stream) (given_frames now given) lock
       is = on.is_fed
 
       grown : take (now + size) stream ≡ take now stream ++ take size (drop now stream)
       grown = take-add now size stream
 
-      some : 0 < size → DecodesOn (coded_stream line stream) (given_by fed given) (now + size) new
+      some : 0 < size → DecodesOn (coded_stream line stream) (given_frames fed given) (now + size) new
       some more_than = record {
         is_fed = record {
           inside = omega (arith, more.inside, length-drop now stream, is.inside);
@@ -178,11 +178,11 @@ module _ (line : LineCode) (stream : List ℕ) where
               ∙ unfinished in
               cc (e, open_is)
 
-      none : size ≡ 0 → DecodesOn (coded_stream line stream) (given_by fed given) (now + size) new
+      none : size ≡ 0 → DecodesOn (coded_stream line stream) (given_frames fed given) (now + size) new
       none zero_is =
           let nothing : length stream ≤ now =
           omega (arith, length-drop now stream, ap (λ (l : List ℕ). length l) (more.ended zero_is)) in
-          subst (λ (n : ℕ). DecodesOn (coded_stream line stream) (given_by fed given) n new) (omega
+          subst (λ (n : ℕ). DecodesOn (coded_stream line stream) (given_frames fed given) n new) (omega
           (arith, zero_is)) (record {
             is_fed = record {
               inside = is.inside;
@@ -194,13 +194,13 @@ module _ (line : LineCode) (stream : List ℕ) where
             same = on.same;
           })
 
-      by_size : (0 < size) ⊎ (size ≤ 0) → DecodesOn (coded_stream line stream) (given_by fed given) (now + size) new
+      by_size : (0 < size) ⊎ (size ≤ 0) → DecodesOn (coded_stream line stream) (given_frames fed given) (now + size) new
       by_size (inl more_than) = some more_than
       by_size (inr none_is) = none (omega (arith, none_is))
 
   pub begun : (given : List Frame) (fed : ℕ) (lock : LockState)
-      → IsFed (coded_stream line stream) (given_by fed given) lock
-      → DecodesOn (coded_stream line stream) (given_by fed given) fed lock
+      → IsFed (coded_stream line stream) (given_frames fed given) lock
+      → DecodesOn (coded_stream line stream) (given_frames fed given) fed lock
   begun given fed lock is = record { is_fed = is; same = refl }
 
   -- ---- files
@@ -245,7 +245,7 @@ module _ (line : LineCode) (stream : List ℕ) where
   pub decoded_more : (fed : ℕ) (lock : LockState) (layers : KeptLayers) (files : List Placed)
       → (is : IsDecodedSoFar (coded_stream line stream) fed lock layers files)
       → (now : ℕ) (later : LockState) (seen : WindowView)
-      → ShowsWindow (coded_stream line stream) (given_by fed is.given) later seen (Some now)
+      → ShowsWindow (coded_stream line stream) (given_frames fed is.given) later seen (Some now)
       → (outcome : Outcome) → outcome ≡ outcome_of_window seen.line seen.symbols → (layers' : KeptLayers)
       (files' : List Placed)
       → ((outcomes : List Outcome) → LayersStandFor layers outcomes
@@ -256,15 +256,16 @@ module _ (line : LineCode) (stream : List ℕ) where
       let frame = shows.0 in
       let symbols = symbols_of (take now stream) in
       let before : map (outcome_in line symbols) is.given ≡ outcomes_given (coded_stream line stream)
-      (given_by fed is.given) = shows.3 in
+      (given_frames fed is.given) = shows.3 in
       let here : outcome ≡ outcome_in line symbols frame =
       outcome_is ∙ ap (λ (w : WindowView). outcome_of_window w.line w.symbols) shows.2 in
       let all : map (outcome_in line symbols) (is.given ++ frame ∷ [])
-      ≡ outcomes_given (coded_stream line stream) (given_by fed is.given) ++ outcome ∷ [] =
+      ≡ outcomes_given (coded_stream line stream) (given_frames fed is.given) ++ outcome ∷ [] =
       map_push (outcome_in line symbols) is.given frame
       ∙ ap (λ (l : List Outcome). l ++ outcome_in line symbols frame ∷ []) before
-      ∙ ap (λ (o : Outcome). outcomes_given (coded_stream line stream) (given_by fed is.given) ++ o ∷ []) (sym here) in
-      let step = pushed (outcomes_given (coded_stream line stream) (given_by fed is.given)) is.layers_stand in
+      ∙ ap (λ (o : Outcome). outcomes_given (coded_stream line stream) (given_frames fed is.given) ++ o ∷ [])
+          (sym here) in
+      let step = pushed (outcomes_given (coded_stream line stream) (given_frames fed is.given)) is.layers_stand in
       record {
         given = is.given ++ frame ∷ [];
         is_fed = shows.1;
@@ -278,7 +279,7 @@ module _ (line : LineCode) (stream : List ℕ) where
   pub decoded_all : (fed : ℕ) (lock : LockState) (layers : KeptLayers) (files : List Placed)
       → (is : IsDecodedSoFar (coded_stream line stream) fed lock layers files)
       → (later : LockState) (seen : WindowView)
-      → ShowsWindow (coded_stream line stream) (given_by fed is.given) later seen None
+      → ShowsWindow (coded_stream line stream) (given_frames fed is.given) later seen None
       → files ≡ files_of_stream line stream
   unfolding outcomes_given files_of_stream
   decoded_all fed lock layers files is later seen shows =

@@ -16,7 +16,7 @@ use Rattle.lr_downlinks.specs.Appending.{AppendsFile, AppendsNext, IsSameBook, W
 use Rattle.lr_downlinks.specs.Appending.{answer_to, failed_after, book_view_of, downlink_file}
 use Rattle.lr_downlinks.specs.Appending.{downlink_files}
 use Rattle.lr_downlinks.specs.Books.{BeginsRun, BookView, IsBookOf, KeepsBook, StandsOver}
-use Rattle.lr_downlinks.specs.Books.{BookWorks, WorksOrBroke, held_by}
+use Rattle.lr_downlinks.specs.Books.{BookWorks, WorksOrBroke, shelf_of_book}
 use Rattle.lr_downlinks.specs.Merge.{IsNextOf, times_in_order}
 use Rattle.lr_shelf.specs.Prefixes.{way_with_files}
 use Rattle.lr_downlinks.specs.Appended.{HasAppended}
@@ -127,7 +127,7 @@ module _ {D : Type 0} (disk : DiskOf D)
 
       -- the file was appended
       pub more_kept : (shelf' : Shelf) (d' : D) (number : ℕ)
-          → Appends disk placed (held_by old) (shelf_on shelf' d') (Ok number)
+          → Appends disk placed (shelf_of_book old) (shelf_on shelf' d') (Ok number)
           → KeepsBook disk start handed name (record {
             shelf = shelf';
             disk = d';
@@ -183,7 +183,7 @@ module _ {D : Type 0} (disk : DiskOf D)
               (way_is shelf d over) was.appended leaves_contents counts_now was.keeps number a.adds)
 
       -- the disk failed in it
-      pub broke_kept : (shelf' : Shelf) (d' : D) → Appends disk placed (held_by old)
+      pub broke_kept : (shelf' : Shelf) (d' : D) → Appends disk placed (shelf_of_book old)
           (shelf_on shelf' d') (Err Disk)
           → KeepsBook disk start handed name (record {
             shelf = shelf';
@@ -218,7 +218,7 @@ module _ {D : Type 0} (disk : DiskOf D)
 
       -- it was refused before anything was written
       pub refused_kept : (shelf : Shelf) (d : D) (error : ShelfError) → error ≢ Disk
-          → Appends disk placed (held_by old) (shelf_on shelf d) (Err error)
+          → Appends disk placed (shelf_of_book old) (shelf_on shelf d) (Err error)
           → (d ≡ old.disk) × (kept_by shelf ≡ kept_by old.shelf)
       refused_kept shelf d error other a =
           ⊎_elim (λ (is : error ≡ Disk). absurd (other is))
@@ -226,7 +226,7 @@ module _ {D : Type 0} (disk : DiskOf D)
 
       -- whatever it answered
       one_kept : (shelf : Shelf) (d : D) (order : List ℕ) (answer : Result ℕ ShelfError)
-          → Appends disk placed (held_by old) (shelf_on shelf d) answer
+          → Appends disk placed (shelf_of_book old) (shelf_on shelf d) answer
           → OnOk answer (order ≡ old.order ++ downlink ∷ [])
           → OnErr answer (order ≡ old.order)
           → KeepsBook disk start handed name (record {
@@ -287,7 +287,7 @@ module _ {D : Type 0} (disk : DiskOf D) (downlink : ℕ) (files : List Placed) (
   module _ (placed : Placed) (some : slice_get files (times_in_order downlink old.order) ≡ Some placed)
       (shelf : Shelf) (d : D)
       (order : List ℕ) where
-    one_refused : (answer : Result ℕ ShelfError) → Appends disk placed (held_by old)
+    one_refused : (answer : Result ℕ ShelfError) → Appends disk placed (shelf_of_book old)
         (shelf_on shelf d) answer
         → OnErr answer (order ≡ old.order)
         → IfErr (answer_to answer) (λ error. error ≢ Disk → IsSameBook old (record {

@@ -16,7 +16,7 @@ use Rattle.lr_shelf.specs.declared.error.ShelfError.{ShelfError}
 use Rattle.lr_shelf.specs.declared.error.ShelfError.TheVariants.{Disk, Capacity, NoMemory, Failed}
 use Rattle.lr_downlinks.specs.Appending.{AppendsFile, AppendsNext, IsSameBook, WantsMemory}
 use Rattle.lr_downlinks.specs.Appending.{answer_to, failed_after, downlink_file, downlink_files}
-use Rattle.lr_downlinks.specs.Books.{BookView, IsBookOf, held_by}
+use Rattle.lr_downlinks.specs.Books.{BookView, IsBookOf, shelf_of_book}
 use Rattle.lr_downlinks.specs.Ending.{DoesNotFitAt, RunEndsWith, BookGoesOn, IsLeftAt}
 use Rattle.lr_downlinks.specs.Merge.{times_in_order}
 use Rattle.lr_shelf.specs.Prefixes.{way_with_files}
@@ -165,7 +165,7 @@ module _ {D : Type 0} (disk : DiskOf D) (start : Start) (downlink : ℕ) (old ne
         left_by : (placed : Placed)
             → slice_get (files_in start downlink) (times_in_order downlink old.order) ≡ Some placed
             → (error : ShelfError) → result ≡ Err error → (answer : Result ℕ ShelfError)
-            → Appends disk placed (held_by old) (held_by new) answer
+            → Appends disk placed (shelf_of_book old) (shelf_of_book new) answer
             → answer_to answer ≡ Err error
             → IsLeftAt start downlink new error
         left_by placed some error is (Ok number) a e = absurd (cc (e))

@@ -8,7 +8,7 @@ use Rattle.lr_shelf.specs.Kept.{kept_by}
 use Rattle.lr_shelf.specs.declared.error.ShelfError.{ShelfError}
 use Rattle.lr_shelf.specs.declared.error.ShelfError.TheVariants.{Disk, NoMemory}
 use Rattle.lr_shelf.specs.declared.shelf.Shelf.{Shelf}
-use Rattle.lr_downlinks.specs.Books.{BookView, held_by}
+use Rattle.lr_downlinks.specs.Books.{BookView, shelf_of_book}
 use Rattle.lr_downlinks.specs.Merge.{times_in_order}
 
 -- the book is as it was; of the shelf, all that it keeps
@@ -57,7 +57,7 @@ module _ {D : Type 0} (disk : DiskOf D) where
   -- the file was appended to the shelf, and the downlink to the order, or the shelf refused it
   pub record AppendsFile (next : DownlinkFile) (old new : BookView D) (result : Result Bool ShelfError) : Type 0 where
     pub answer : Result ℕ ShelfError
-    pub appends : Appends disk next.placed (held_by old) (held_by new) answer
+    pub appends : Appends disk next.placed (shelf_of_book old) (shelf_of_book new) answer
     pub result_is : result ≡ answer_to answer
     pub order : OnOk answer (new.order ≡ old.order ++ next.downlink ∷ [])
     pub order_stays : OnErr answer (new.order ≡ old.order)

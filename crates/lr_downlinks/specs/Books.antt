@@ -20,8 +20,8 @@ pub record BookView (D : Type 0) : Type 0 where
   pub failed : Bool
 
 -- its shelf, on its disk
-abbrev pub held_by : {D : Type 0} → BookView D → ShelfOn D
-held_by book = shelf_on book.shelf book.disk
+abbrev pub shelf_of_book : {D : Type 0} → BookView D → ShelfOn D
+shelf_of_book book = shelf_on book.shelf book.disk
 
 -- The order is one of the bundle, and the shelf keeps the files that were appended in this order.
 pub record IsBookOf {D : Type 0} (start : Start) (book : BookView D) : Type 0 where

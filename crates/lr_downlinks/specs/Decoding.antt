@@ -39,8 +39,8 @@ pub record GivenFrames : Type 0 where
   pub fed : ℕ
   pub frames : List Frame
 
-abbrev pub given_by : ℕ → List Frame → GivenFrames
-given_by fed frames = record { fed = fed; frames = frames }
+abbrev pub given_frames : ℕ → List Frame → GivenFrames
+given_frames fed frames = record { fed = fed; frames = frames }
 
 module _ (stream : CodedStream) where
   -- these symbols were fed to a lock of this line code, and these frames given
@@ -57,18 +57,18 @@ module _ (stream : CodedStream) where
 
   -- more were fed, and what becomes of the frames given stays
   pub record DecodesOn (given : GivenFrames) (now : ℕ) (lock : LockState) : Type 0 where
-    pub is_fed : IsFed (given_by now given.frames) lock
-    pub same : outcomes_given (given_by now given.frames) ≡ outcomes_given given
+    pub is_fed : IsFed (given_frames now given.frames) lock
+    pub same : outcomes_given (given_frames now given.frames) ≡ outcomes_given given
 
   -- the next frame is shown, or all were given
   abbrev pub ShowsWindow : GivenFrames → LockState → WindowView → Option ℕ → Type 0
   ShowsWindow given lock window (Some now) =
-      (frame : Frame) × IsFed (given_by now (given.frames ++ frame ∷ [])) lock
+      (frame : Frame) × IsFed (given_frames now (given.frames ++ frame ∷ [])) lock
       × (window ≡ window_view stream.line (symbols_of (take now stream.symbols)) frame)
-      × (outcomes_given (given_by now given.frames) ≡ outcomes_given given)
+      × (outcomes_given (given_frames now given.frames) ≡ outcomes_given given)
   ShowsWindow given lock window None =
       AreFrames (tail_of stream.line) (symbols_of stream.symbols) given.frames
-      × (outcomes_given (given_by (length stream.symbols) given.frames) ≡ outcomes_given given)
+      × (outcomes_given (given_frames (length stream.symbols) given.frames) ≡ outcomes_given given)
 
 -- what decreases with each step
 abbrev pub decode_steps_left : List ℕ → ℕ → LockState → ℕ
@@ -78,6 +78,6 @@ decode_steps_left stream fed lock = 2 * (length stream - fed) + length lock.kept
 pub record IsDecodedSoFar (stream : CodedStream) (fed : ℕ) (lock : LockState) (layers : KeptLayers)
     (files : List Placed) : Type 0 where
   pub given : List Frame
-  pub is_fed : IsFed stream (given_by fed given) lock
-  pub layers_stand : LayersStandFor layers (outcomes_given stream (given_by fed given))
-  pub files_are : files ≡ placed_of_outcomes (outcomes_given stream (given_by fed given))
+  pub is_fed : IsFed stream (given_frames fed given) lock
+  pub layers_stand : LayersStandFor layers (outcomes_given stream (given_frames fed given))
+  pub files_are : files ≡ placed_of_outcomes (outcomes_given stream (given_frames fed given))

@@ -10,7 +10,7 @@ ghost use Rattle.lr_downlinks.specs.Decoding.{
   ShowsWindow,
   decode_steps_left,
   coded_stream,
-  given_by,
+  given_frames,
 };
 
 use crate::sizes::MOST_STREAM_SYMBOLS;
@@ -44,10 +44,10 @@ fn show_next(lock: &mut Lock, stream: &[u8], fed: usize, window: &mut Window) ->
     requires few { length stream.now ≤ MOST_STREAM_SYMBOLS }
     requires line { window.old.line ≡ lock.old.line }
     requires is_fed { (line : LineCode') × (given : List Frame) × IsFed (coded_stream line stream.now)
-        (given_by fed given) lock.old }
+        (given_frames fed given) lock.old }
     ensures shows { (line : LineCode') (given : List Frame) → IsFed (coded_stream line stream.now)
-        (given_by fed given) lock.old
-        → ShowsWindow (coded_stream line stream.now) (given_by fed given) lock.new window.new result }
+        (given_frames fed given) lock.old
+        → ShowsWindow (coded_stream line stream.now) (given_frames fed given) lock.new window.new result }
     ensures line { window.new.line ≡ lock.new.line }
     ensures fewer { IfSome result (λ taken. decode_steps_left stream.now taken lock.new
         < decode_steps_left stream.now fed lock.old) }

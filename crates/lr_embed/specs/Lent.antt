@@ -18,12 +18,12 @@ abbrev pub words_in : List ℕ → List (List ℕ)
 words_in text = slice_split (λ b. b == 10) text
 
 -- the bytes of a source that are left
-abbrev pub left_of : LentSource → List ℕ
-left_of s = s.rest.now
+abbrev pub left_of_lent : LentSource → List ℕ
+left_of_lent s = s.rest.now
 
 -- what is lent to a call: the words; what the command reads; the shelf; how many calls of the shelf there may be; and
 -- how long the rooms are for what it puts, for what it tells and for the shelf
-pub record Lent : Type 0 where
+pub record LentToCall : Type 0 where
   pub words : List (List ℕ)
   pub input : List ℕ
   pub shelf : List ℕ
@@ -32,8 +32,8 @@ pub record Lent : Type 0 where
   pub err_room : ℕ
   pub shelf_room : ℕ
 
-abbrev pub lent : List (List ℕ) → (input shelf : List ℕ) → (calls out_room err_room shelf_room : ℕ) → Lent
-lent words input shelf calls out_room err_room shelf_room = record {
+abbrev pub lent_to_call : List (List ℕ) → (input shelf : List ℕ) → (calls out_room err_room shelf_room : ℕ) → LentToCall
+lent_to_call words input shelf calls out_room err_room shelf_room = record {
   words = words;
   input = input;
   shelf = shelf;
@@ -72,11 +72,11 @@ pub record IsEmptySink (room : ℕ) (sink : MemSink) : Type 0 where
   pub faults : faults_of sink ≡ 0
 
 -- the station was called over what is lent, and put, told and left this
-pub record RunsLent (all : StationWorld LentSource MemDisk MemSink MemSink) (given : Lent) (status : ℕ)
+pub record RunsLent (all : StationWorld LentSource MemDisk MemSink MemSink) (given : LentToCall) (status : ℕ)
     (said told left : List ℕ) : Type 0 where
   pub before : StationOutside LentSource MemDisk MemSink MemSink
   pub after : StationOutside LentSource MemDisk MemSink MemSink
-  pub gives_input : left_of before.outside.source ≡ given.input
+  pub gives_input : left_of_lent before.outside.source ≡ given.input
   pub gives_shelf : IsDiskOf given.shelf given.shelf_room given.calls before.outside.disk
   pub gives_out : IsEmptySink given.out_room before.outside.out
   pub gives_err : IsEmptySink given.err_room before.err
@@ -93,7 +93,8 @@ pub record GotBytes (old new : List ℕ) (count : ℕ) (bytes : List ℕ) : Type
 
 -- The station was called over what is lent and answered its status; what it put, what it told and the shelf's bytes
 -- afterwards are at the front of the three rooms.
-pub record HasRun (all : StationWorld LentSource MemDisk MemSink MemSink) (given : Lent) (status : ℕ) (counts : Counts)
+pub record HasRun (all : StationWorld LentSource MemDisk MemSink MemSink) (given : LentToCall) (status : ℕ)
+    (counts : Counts)
     (before after : Rooms) : Type 0 where
   pub said : List ℕ
   pub told : List ℕ
@@ -107,13 +108,13 @@ pub record HasRun (all : StationWorld LentSource MemDisk MemSink MemSink) (given
 abbrev pub no_memory : ℕ
 no_memory = 256
 
-abbrev pub no_text : ℕ
-no_text = 257
+abbrev pub no_text_given : ℕ
+no_text_given = 257
 
 abbrev pub no_room : ℕ
 no_room = 258
 
 -- no answer of the station came, and the rooms are as they were
 pub record HasNotRun (answer : ℕ) (before after : Rooms) : Type 0 where
-  pub is : (answer ≡ no_memory) ⊎ (answer ≡ no_text) ⊎ (answer ≡ no_room)
+  pub is : (answer ≡ no_memory) ⊎ (answer ≡ no_text_given) ⊎ (answer ≡ no_room)
   pub stay : after ≡ before

@@ -7,9 +7,9 @@ ghost use Rattle.lr_embed.specs.Lent.{
   HasNotRun,
   HasRun,
   RunsLent,
-  lent,
+  lent_to_call,
   no_room,
-  no_text,
+  no_text_given,
   rooms,
   words_in,
 };
@@ -81,7 +81,7 @@ fn station_over(
     ensures { IfOk result (λ left. RunsLent
         (world_and_err (world_of ⟦<LentSource<'static> as Source>⟧ ⟦<MemDisk as Disk>⟧ ⟦<MemSink as Sink>⟧)
         ⟦<MemSink as Sink>⟧)
-        (lent (map string_bytes words.now) input.now shelf.now limits.calls limits.out limits.err limits.shelf)
+        (lent_to_call (map string_bytes words.now) input.now shelf.now limits.calls limits.out limits.err limits.shelf)
         left.status (sink_bytes left.out) (sink_bytes left.err) (disk_bytes left.disk)) }
 {
     let bytes = Vec::from_slice(alloc, shelf)?;
@@ -141,7 +141,7 @@ fn run(
     ensures runs { IfOk result (λ it. HasRun
         (world_and_err (world_of ⟦<LentSource<'static> as Source>⟧ ⟦<MemDisk as Disk>⟧ ⟦<MemSink as Sink>⟧)
         ⟦<MemSink as Sink>⟧)
-        (lent (words_in text.now) input.now shelf.now calls (length out.old) (length err.old) (length kept.old))
+        (lent_to_call (words_in text.now) input.now shelf.now calls (length out.old) (length err.old) (length kept.old))
         it.0 it.1 (rooms out.old err.old kept.old) (rooms out.new err.new kept.new)) }
     ensures refused { OnErr result (rooms out.new err.new kept.new ≡ rooms out.old err.old kept.old) }
 {
@@ -178,9 +178,10 @@ pub extern "C" fn lr_run(
     ensures runs { HasNotRun result (rooms out.old err.old kept.old) (rooms out.new err.new kept.new) ⊎ HasRun
         (world_and_err (world_of ⟦<LentSource<'static> as Source>⟧ ⟦<MemDisk as Disk>⟧ ⟦<MemSink as Sink>⟧)
         ⟦<MemSink as Sink>⟧)
-        (lent (words_in words.now) input.now shelf.now calls (length out.old) (length err.old) (length kept.old))
+        (lent_to_call (words_in words.now) input.now shelf.now calls (length out.old) (length err.old)
+            (length kept.old))
         result counts.new (rooms out.old err.old kept.old) (rooms out.new err.new kept.new) }
-    ensures no_text { (result ≡ no_text) ↔ (IsUtf8 words.now → ⊥) }
+    ensures no_text { (result ≡ no_text_given) ↔ (IsUtf8 words.now → ⊥) }
     ensures no_room { (result ≡ no_room) ↔ (IsUtf8 words.now × (length kept.old < length shelf.now)) }
     ensures needed { result ≡ no_room → counts.new.shelf ≡ length shelf.now }
 {

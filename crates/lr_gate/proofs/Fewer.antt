@@ -7,7 +7,7 @@ use Rattle.lr_gate.specs.declared.view.View.{View}
 use Rattle.lr_gate.specs.Shows.{count_of}
 use Rattle.std.specs.Prelude.{IsTrue, ◌↔◌}
 use Rattle.lr_gate.specs.Calls.{HasFinished}
-use Rattle.lr_gate.specs.Seats.{put_count, TakesNothing, Helps, SomeUnfinished, OldestWaits}
+use Rattle.lr_gate.specs.Seats.{jobs_put, TakesNothing, Helps, SomeUnfinished, OldestWaits}
 use Rattle.lr_gate.proofs.Lists.{count_end}
 use Rattle.lr_gatecore.proofs.Lists.{at_length}
 use Rattle.lr_gate.specs.Left.{unfinished_from, unfinished_count}
@@ -66,7 +66,7 @@ module _ {J : Type 0} where
 
   -- where the oldest job can't be taken yet, a round of help leaves one job less
   pub help_leaves_fewer : (n : ℕ) (v mid w : View J) (b : Bool) → TakesNothing n v mid → OldestWaits v
-      → v.taken < put_count v → IsTrue b ↔ SomeUnfinished mid → Helps n mid w b
+      → v.taken < jobs_put v → IsTrue b ↔ SomeUnfinished mid → Helps n mid w b
       → unfinished_count w + 1 ≡ unfinished_count v
   help_leaves_fewer n v mid w b none waits some_left iff helps =
       let same : (mid.jobs ≡ v.jobs)
@@ -74,7 +74,7 @@ module _ {J : Type 0} where
       ⊎_elim (λ x. (ap (λ (u : View J). u.jobs) x.1, ap (λ (u : View J). u.finished) x.1))
       (λ x. (ap (λ (u : View J). u.jobs) x.2, ap (λ (u : View J). u.finished) x.2)) none in
       let open_job : ¬ HasFinished v v.taken = ⊎_elim
-      (λ (e : put_count v ≡ v.taken). absurd (omega (arith, e, some_left))) (λ u. u) waits in
+      (λ (e : jobs_put v ≡ v.taken). absurd (omega (arith, e, some_left))) (λ u. u) waits in
       let unfinished : SomeUnfinished mid = (
         v.taken,
         subst (λ xs. v.taken < length xs) (sym same.0) some_left,

@@ -7,7 +7,7 @@ use Rattle.lr_gatecore.specs.declared.event.Event.TheVariants.{Put, Claim, Finis
 use Rattle.lr_gatecore.specs.declared.ring_size.RingSize.{RingSize}
 use Rattle.lr_gatecore.specs.declared.stage.Stage.TheVariants.{Ready}
 use Rattle.lr_gatecore.specs.Machine.{Machine, Moves, HasStage, Entry}
-use Rattle.lr_gatecore.specs.Story.{entry}
+use Rattle.lr_gatecore.specs.Story.{log_entry}
 use Rattle.lr_gatecore.specs.declared.sizes.TheConstants.{MOST_JOBS, WORD_BASE}
 use Rattle.lr_gate.specs.declared.slot_value.SlotValue.{SlotValue}
 use Rattle.lr_gate.specs.declared.slot_value.SlotValue.TheVariants.{Given, Made}
@@ -27,7 +27,7 @@ module _ {J D : Type 0} (gives : J → D) (size : RingSize) where
   abbrev pub PutIsMove : (s : State (SlotValue J D) (View J)) → Shows gives size s → Type 0
   PutIsMove s r =
       (j : J) → r.me.stopped ≡ false → length r.me.jobs < MOST_JOBS → length r.me.jobs < r.me.taken + size.cells
-      → IsMove (machine_shown gives size s r) (entry Put (length r.me.jobs)) record {
+      → IsMove (machine_shown gives size s r) (log_entry Put (length r.me.jobs)) record {
         words = slice_set s.words (length r.me.jobs % size.cells + 1) (length r.me.jobs * WORD_BASE + 1);
         homes = slice_set s.homes (length r.me.jobs % size.cells) (some (Given j));
         views = slice_set s.views 0 (after_put r.me j);
@@ -38,7 +38,7 @@ module _ {J D : Type 0} (gives : J → D) (size : RingSize) where
   ClaimIsMove s r =
       (w p : ℕ) (v : View J) (k : Read) (j : J) → get_elem? s.views w ≡ some v → v.spent ≡ false
       → v.held ≡ None → HasStage (machine_shown gives size s r) p Ready → get_elem? r.me.jobs p ≡ some j
-      → IsMove (machine_shown gives size s r) (entry (Claim w (p % size.cells)) p) record {
+      → IsMove (machine_shown gives size s r) (log_entry (Claim w (p % size.cells)) p) record {
         words = slice_set s.words (p % size.cells + 1) (p * WORD_BASE + (4 * w + 3));
         homes = slice_set s.homes (p % size.cells) none;
         views = slice_set s.views w (after_claim v k (held_job (p % size.cells) p j));
@@ -48,7 +48,7 @@ module _ {J D : Type 0} (gives : J → D) (size : RingSize) where
   abbrev pub FinishIsMove : (s : State (SlotValue J D) (View J)) → Shows gives size s → Type 0
   FinishIsMove s r =
       (w : ℕ) (v : View J) (h : Held J) → get_elem? s.views w ≡ some v → v.spent ≡ false → v.held ≡ Some h
-      → IsMove (machine_shown gives size s r) (entry (Finish w) h.job) record {
+      → IsMove (machine_shown gives size s r) (log_entry (Finish w) h.job) record {
         words = slice_set s.words (h.job % size.cells + 1) (h.job * WORD_BASE + 2);
         homes = slice_set s.homes (h.job % size.cells) (some (Made (gives h.what)));
         views = slice_set s.views w (after_finish v h.job);
@@ -58,7 +58,7 @@ module _ {J D : Type 0} (gives : J → D) (size : RingSize) where
   abbrev pub TakeIsMove : (s : State (SlotValue J D) (View J)) → Shows gives size s → Type 0
   TakeIsMove s r =
       r.me.taking ≡ true → r.me.stocked ≡ true
-      → IsMove (machine_shown gives size s r) (entry Take r.me.taken) record {
+      → IsMove (machine_shown gives size s r) (log_entry Take r.me.taken) record {
         words = slice_set s.words (r.me.taken % size.cells + 1) 0;
         homes = s.homes;
         views = slice_set s.views 0 (after_take r.me);
@@ -68,7 +68,7 @@ module _ {J D : Type 0} (gives : J → D) (size : RingSize) where
   abbrev pub StopIsMove : (s : State (SlotValue J D) (View J)) → Shows gives size s → Type 0
   StopIsMove s r =
       r.me.stopped ≡ false
-      → IsMove (machine_shown gives size s r) (entry Stop (length r.stages)) record {
+      → IsMove (machine_shown gives size s r) (log_entry Stop (length r.stages)) record {
         words = slice_set s.words 0 1;
         homes = s.homes;
         views = slice_set s.views 0 (after_stop r.me);

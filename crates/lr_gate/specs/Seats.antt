@@ -71,12 +71,12 @@ module _ {W J D : Type 0} where
   IsNewSeat s = seat_view s ≡ new_view (seat_view s).number
 
 module _ {J : Type 0} where
-  abbrev pub put_count : View J → ℕ
-  put_count v = length v.jobs
+  abbrev pub jobs_put : View J → ℕ
+  jobs_put v = length v.jobs
 
   -- how many jobs were put and not taken
   abbrev pub waiting_count : View J → ℕ
-  waiting_count v = put_count v - v.taken
+  waiting_count v = jobs_put v - v.taken
 
   -- the conductor's view when its gate was built
   abbrev pub opening_view : ℕ → View J
@@ -85,8 +85,8 @@ module _ {J : Type 0} where
   -- Nothing was taken: the ring is empty, and nothing was loaded; or the oldest cell's word was loaded, and wasn't done
   abbrev pub TakesNothing : ℕ → View J → View J → Type 0
   TakesNothing n old new =
-      ((put_count old ≡ old.taken) × (new ≡ old))
-      ⊎ ((found : ℕ) × (old.taken < put_count old)
+      ((jobs_put old ≡ old.taken) × (new ≡ old))
+      ⊎ ((found : ℕ) × (old.taken < jobs_put old)
       × (new ≡ with_reads old (read (old.taken % n + 1) None found ∷ [])) × (found % 4 ≢ 2))
 
   -- the oldest job's result was taken
@@ -114,8 +114,8 @@ module _ {J : Type 0} where
 
   -- some job was put and isn't finished, by the list of the one seat
   abbrev pub SomeUnfinished : View J → Type 0
-  SomeUnfinished v = (p : ℕ) × (p < put_count v) × ¬ HasFinished v p
+  SomeUnfinished v = (p : ℕ) × (p < jobs_put v) × ¬ HasFinished v p
 
   -- the ring is empty, or its oldest job isn't finished, by the list of the one seat
   abbrev pub OldestWaits : View J → Type 0
-  OldestWaits v = (put_count v ≡ v.taken) ⊎ (¬ HasFinished v v.taken)
+  OldestWaits v = (jobs_put v ≡ v.taken) ⊎ (¬ HasFinished v v.taken)

@@ -2,7 +2,7 @@
 
 ghost use Rattle.std.specs.Prelude.{◌≡◌, ◌<◌, ◌≤◌, [], All, IfOk, replicate, vec_len, vec_capacity};
 ghost use Rattle.lr_gate.specs.declared.slot_value.SlotValue.TheVariants.{Empty};
-ghost use Rattle.lr_gate.specs.Seats.{cells_of, workers_of, IsConductorOf, IsSeatOf, view_of, put_count};
+ghost use Rattle.lr_gate.specs.Seats.{cells_of, workers_of, IsConductorOf, IsSeatOf, view_of, jobs_put};
 ghost use Rattle.lr_gate.specs.Seats.{IsConductorWith, IsNewSeat, opening_view};
 
 use crate::gate::{Conductor, Gate, Tally, WorkerSeat};
@@ -86,7 +86,7 @@ impl<W: Work> Gate<W> {
         requires mine { IsConductorOf self conductor }
         requires seats { All (IsSeatOf self) seats.items }
         requires all { vec_len seats ≡ workers_of self }
-        ensures put { result.put ≡ put_count (view_of conductor) }
+        ensures put { result.put ≡ jobs_put (view_of conductor) }
         ensures taken { result.taken ≡ (view_of conductor).taken }
     {
         while let Some(WorkerSeat { seat, .. }) = seats.pop() {

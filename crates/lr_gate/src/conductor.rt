@@ -4,7 +4,7 @@ ghost use Rattle.std.specs.Prelude.{◌≡◌, ◌↔◌, ◌+◌, ◌^◌, ◌<
 ghost use Rattle.std.specs.Prelude.{IsNone, IsTrue};
 ghost use Rattle.lr_gate.specs.Steps.{after_put, after_stop, after_split, new_view};
 ghost use Rattle.lr_gate.specs.Calls.{IsWorker};
-ghost use Rattle.lr_gate.specs.Seats.{cells_of, workers_of, IsConductorOf, IsConductorWith, view_of, put_count};
+ghost use Rattle.lr_gate.specs.Seats.{cells_of, workers_of, IsConductorOf, IsConductorWith, view_of, jobs_put};
 ghost use Rattle.lr_gate.specs.Seats.{waiting_count, TakesNothing, TakesOldest, Helps, SomeUnfinished, OldestWaits};
 
 use crate::gate::{Conductor, Gate, RingFull, WorkerSeat};
@@ -18,7 +18,7 @@ impl<W: Work> Conductor<W> {
     pub fn put(&mut self, gate: &Gate<W>, job: W::Job) -> Result<(), RingFull<W::Job>>
         requires mine { IsConductorOf gate.now self.old }
         requires running { (view_of self.old).stopped ≡ false }
-        requires few { put_count (view_of self.old) < MOST_JOBS }
+        requires few { jobs_put (view_of self.old) < MOST_JOBS }
         ensures mine { IsConductorOf gate.now self.new }
         ensures put { OnOk result (view_of self.new ≡ after_put (view_of self.old) job) }
         ensures full { IsErr result ↔ (waiting_count (view_of self.old) ≡ cells_of gate.now) }

@@ -10,7 +10,7 @@ use Rattle.lr_gatecore.specs.declared.event.Event.TheVariants.{Put, Claim, Finis
 use Rattle.lr_gatecore.specs.declared.ring_size.RingSize.{RingSize}
 use Rattle.lr_gatecore.specs.declared.stage.Stage.{Stage}
 use Rattle.lr_gatecore.specs.declared.stage.Stage.TheVariants.{Ready, Busy, Done}
-use Rattle.lr_gatecore.specs.Machine.{Machine, Entry, HasStage, Moves, IsRefused, Leads}
+use Rattle.lr_gatecore.specs.Machine.{Machine, Entry, HasStage, Moves, IsRefused, EventsLead}
 use Rattle.lr_gatecore.specs.Core.{MachineSteps, machine_of, IsKept}
 use Rattle.lr_gatecore.specs.declared.sizes.TheConstants.{MOST_JOBS}
 use Rattle.lr_gatecore.proofs.Lists.{at_length}
@@ -136,11 +136,11 @@ take_moves size t w rest b is e = let at = window_has t 0 w b Done is in let z :
 -- one event more
 module _ (size : RingSize) where
   abbrev Longer : Machine → List Event → List Entry → Event → Bool → Machine → Type 0
-  Longer m events log e b n = (more : List Entry) × Leads size m (events ++ e ∷ []) more n
+  Longer m events log e b n = (more : List Entry) × EventsLead size m (events ++ e ∷ []) more n
       × (length more ≡ length log + cond b 1 0)
 
   pub leads_end : (m : Machine) (events : List Event) (log : List Entry) (n : Machine) (e : Event) (b : Bool)
-      (n' : Machine) → Leads size m events log n → MachineSteps size n e b n'
+      (n' : Machine) → EventsLead size m events log n → MachineSteps size n e b n'
       → Longer m events log e b n'
   leads_end m [] log n e true n' old new = let start : Moves size m e new.0 n' =
       subst (λ (x : Machine). Moves size x e new.0 n') old.1 new.1 in (

@@ -77,9 +77,9 @@ pub record Entry : Type 0 where
   pub job : ℕ
 
 -- A list of events leads from m to n, and these of them moved. A refused event leaves the machine
-abbrev pub Leads : RingSize → Machine → List Event → List Entry → Machine → Type 0
-Leads size m [] log n = (log ≡ []) × (n ≡ m)
-Leads size m (event ∷ events) log n =
+abbrev pub EventsLead : RingSize → Machine → List Event → List Entry → Machine → Type 0
+EventsLead size m [] log n = (log ≡ []) × (n ≡ m)
+EventsLead size m (event ∷ events) log n =
     ((job : ℕ) × (next : Machine) × (rest : List Entry) × Moves size m event job next
-    × Leads size next events rest n × (log ≡ record { event = event; job = job } ∷ rest))
-    ⊎ (IsRefused size m event × Leads size m events log n)
+    × EventsLead size next events rest n × (log ≡ record { event = event; job = job } ∷ rest))
+    ⊎ (IsRefused size m event × EventsLead size m events log n)

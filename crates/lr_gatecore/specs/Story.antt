@@ -4,10 +4,10 @@ use Rattle.std.specs.List.{range_with_len}
 use Rattle.lr_gatecore.specs.declared.event.Event.{Event}
 use Rattle.lr_gatecore.specs.declared.event.Event.TheVariants.{Put, Claim, Finish, Take, Stop}
 use Rattle.lr_gatecore.specs.declared.ring_size.RingSize.{RingSize}
-use Rattle.lr_gatecore.specs.Machine.{Machine, empty_machine, Entry, Leads}
+use Rattle.lr_gatecore.specs.Machine.{Machine, empty_machine, Entry, EventsLead}
 
-abbrev pub entry : Event → ℕ → Entry
-entry event job = record { event = event; job = job }
+abbrev pub log_entry : Event → ℕ → Entry
+log_entry event job = record { event = event; job = job }
 
 -- the job that the event takes, if it takes one
 abbrev pub job_taken_by : Event → ℕ → List ℕ
@@ -44,6 +44,6 @@ IsWholeLife cells i events = (worker : ℕ) × (events ≡ Put ∷ Claim worker 
 abbrev pub JobsGoInOrder : Type 0
 JobsGoInOrder =
     (size : RingSize) (events : List Event) (log : List Entry) (n : Machine)
-    → Leads size empty_machine events log n
+    → EventsLead size empty_machine events log n
     → (taken_jobs log ≡ range_with_len 0 n.taken)
     × ((i : ℕ) → i < n.taken → IsWholeLife size.cells i (life_of i log))

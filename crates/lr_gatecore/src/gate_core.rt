@@ -6,7 +6,7 @@ ghost use mathlib.Core.Option.{some};
 ghost use lib.ListN.{get_elem?};
 ghost use Rattle.lr_gatecore.specs.declared.stage.Stage.TheVariants.{Busy};
 ghost use Rattle.lr_gatecore.specs.declared.event.Event.TheVariants.{Put, Claim, Finish, Take, Stop};
-ghost use Rattle.lr_gatecore.specs.Machine.{Entry, empty_machine, put_count, Leads};
+ghost use Rattle.lr_gatecore.specs.Machine.{Entry, empty_machine, put_count, EventsLead};
 ghost use Rattle.lr_gatecore.specs.Core.{IsCore, SameSize, Steps};
 
 use crate::event::Event;
@@ -176,7 +176,7 @@ impl GateCore {
         requires { put_count self.old.machine + length events.now ≤ MOST_JOBS }
         ensures sizes { SameSize self.old self.new }
         ensures leads { (log : List Entry)
-            × Leads self.old.size self.old.machine events.now log self.new.machine
+            × EventsLead self.old.size self.old.machine events.now log self.new.machine
             × (result ≡ length log) }
     {
         let mut moved = 0;

@@ -36,7 +36,7 @@ use Rattle.lr_layers.specs.Origins.{MarkedPlaced, corrected_in, marked_of_outcom
 use Rattle.lr_layers.specs.Origins.{origin_of, placed_files_after, placed_in, with_origin}
 use Rattle.lr_layers.specs.Standing.{AddsFound, AddsMarked, AddsMended, KeptLayers, MendingLayersStandFor}
 use Rattle.lr_layers.specs.Starts.{AtHand, Found, IsNow, Joins, JoinerStandsFor, StartsStandFor, corrected_before}
-use Rattle.lr_layers.specs.Steps.{AddsFrame, CountsFrame, Gains}
+use Rattle.lr_layers.specs.Steps.{AddsFrame, CountsFrame, FrameGains}
 use Rattle.lr_layers.specs.declared.frames.FrameLayers.{FrameLayers}
 use Rattle.lr_layers.specs.declared.packets.Joiner.{Joiner}
 use Rattle.lr_layers.proofs.Changes.{corrected_before-more, corrected_before-same}
@@ -47,7 +47,7 @@ use Rattle.lr_layers.proofs.Staying.{placed_files-stay}
 
 -- ---- the packets of a frame were pushed
 
-pub took : (at : AtHand) (frames : List Fields) (f : Fields) (layers : FrameLayers) (gains : Gains) →
+pub took : (at : AtHand) (frames : List Fields) (f : Fields) (layers : FrameLayers) (gains : FrameGains) →
     ChannelsStandFor layers.channels (frames ++ f ∷ []) → (cleared items listed : List Packet) → cleared ≡ [] →
     items ≡ cleared ++ packets_at (frames ++ f ∷ []) (length frames) → listed ≡ items →
     Joins at (good_packets listed) layers.joiner gains.old gains.new →
@@ -399,7 +399,7 @@ now_is outcomes outcome old now stood place before after =
 -- a frame was pushed
 pushed_frame : (mend : ℕ) (outcomes : List Outcome) (outcome : Outcome) (old : KeptLayers) (layers : FrameLayers)
     (f : Fields)
-    (now : Now) (numbers : CountsView) (counted : Bool) (gains : Gains) →
+    (now : Now) (numbers : CountsView) (counted : Bool) (gains : FrameGains) →
     MendingLayersStandFor mend old outcomes → frame_in outcome ≡ Some f →
     now.start.place ≡ length outcomes →
     layers.joiner.files.images.most ≡ old.files.images.most →
@@ -521,7 +521,7 @@ module _ (mend : ℕ) (outcomes : List Outcome) (outcome : Outcome) (old kept : 
         })) (outcomes ++ outcome ∷ []) × AddsFound mend counted outcomes outcome files new
     pushed_read f layers gained new some place before same takes =
         let o = Restored corrected frame in
-        let gains : Gains = record { old = files; new = new; counts = gained } in
+        let gains : FrameGains = record { old = files; new = new; counts = gained } in
         let numbers = record read {
           restored = read.restored + 1;
           packets = read.packets + gained.packets;

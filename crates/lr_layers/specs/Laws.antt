@@ -44,8 +44,8 @@ FilesFitTheOutcomes = (weights : Weights) (outcomes : List Outcome) →
     ≤ sum_by (packet_weight weights) (good_of_outcomes outcomes)
 
 -- each file of outcomes has a body, and ten bytes
-abbrev pub FilesAreSome : Type 0
-FilesAreSome =
+abbrev pub OutcomeFilesAreSome : Type 0
+OutcomeFilesAreSome =
     (outcomes : List Outcome)
     → All (λ file. (1 ≤ length file.bodies) × (TRANSPORT_HEADER_BYTES ≤ length (bytes_of file)))
     (files_of_outcomes outcomes)

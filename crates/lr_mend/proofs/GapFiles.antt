@@ -11,7 +11,7 @@ use Rattle.lr_file.specs.Standing.{open_from}
 use Rattle.lr_file.specs.Steps.{is_next}
 use Rattle.lr_file.proofs.Stretches.{longer, is_file-one, and_right}
 use Rattle.lr_file.proofs.Histories.{packets_of_key-own}
-use Rattle.lr_mend.specs.Laws.{packet_of}
+use Rattle.lr_mend.specs.Laws.{packet_mended}
 use Rattle.lr_mend.specs.Marks.{marked}
 use Rattle.lr_mend.specs.MendedFiles.{files_of_gap, mended_file, mended_files_after}
 use Rattle.lr_mend.specs.Mending.{Filling, Image, Mended, count_after, filler_of, fillers_before, fillers_from}
@@ -42,7 +42,7 @@ none_between ps p between =
 none_mended : (before : List Mended) (m : Mended) → m.packet.flags ≡ 0 → mended_file before m ≡ None
 none_mended before m between =
     ap (option_and_then (λ file. marked file (seams_of m.packet.vc m.packet.apid (before ++ m ∷ [])).fillers))
-    (none_between (map packet_of before) m.packet between)
+    (none_between (map packet_mended before) m.packet between)
 
 one_of : (o : Option MarkedFile) → length (option_to_list o ++ []) ≤ 1
 one_of None = omega arith

@@ -15,9 +15,10 @@ use Rattle.lr_file.specs.Files.{file_at}
 use Rattle.lr_file.specs.Standing.{AreAscending, KeptFiles, FilesStandFor, kept_of_key}
 use Rattle.lr_file.specs.Steps.{SetsKey}
 use Rattle.lr_file.proofs.KeyLemmas.{same_key}
-use Rattle.lr_mend.specs.Laws.{packet_of}
+use Rattle.lr_mend.specs.Laws.{packet_mended}
 use Rattle.lr_mend.specs.Marks.{marked}
-use Rattle.lr_mend.specs.MendedFiles.{KeptMended, kept_mended, MendedStandFor, SeamsStandFor, TakesMended, TakesOne}
+use Rattle.lr_mend.specs.MendedFiles.{KeptMended, kept_mended, MendedStandFor}
+use Rattle.lr_mend.specs.MendedFiles.{SeamsStandFor, TakesMended, TakesOneMended}
 use Rattle.lr_mend.specs.MendedFiles.{mended_file}
 use Rattle.lr_mend.specs.MendedFiles.{mended_files_after}
 use Rattle.lr_mend.specs.Standing.{KeptImages, MenderStandsFor}
@@ -100,10 +101,11 @@ mended_files-append before (x ∷ xs) ys =
     (mended_files_after (before ++ x ∷ xs) ys))
 
 pub takes_none : (before : List Mended) (kept : KeptFiles) (noted : List ((ℕ × ℕ) × Seams)) (old : List MarkedFile) →
-    FilesStandFor kept (map packet_of before) → SeamsStandFor noted before → TakesMended before [] kept noted old old
+    FilesStandFor kept (map packet_mended before) → SeamsStandFor noted before
+        → TakesMended before [] kept noted old old
 takes_none before kept noted old files seams =
     record {
-      files = subst (λ (ms : List Mended). FilesStandFor kept (map packet_of ms)) (sym (append-nil before)) files;
+      files = subst (λ (ms : List Mended). FilesStandFor kept (map packet_mended ms)) (sym (append-nil before)) files;
       seams = subst (λ (ms : List Mended). SeamsStandFor noted ms) (sym (append-nil before)) seams;
       added = sym (append-nil old);
     }
@@ -114,7 +116,8 @@ pub takes_more : (before first second : List Mended) {kept later : KeptFiles} {n
     TakesMended before (first ++ second) later after old new
 takes_more before first second {kept} {later} {noted} {after} {old} {between} {new} a b =
     record {
-      files = subst (λ (ms : List Mended). FilesStandFor later (map packet_of ms)) (append_assoc before first second)
+      files = subst (λ (ms : List Mended). FilesStandFor later (map packet_mended ms))
+          (append_assoc before first second)
           b.files;
       seams = subst (λ (ms : List Mended). SeamsStandFor after ms) (append_assoc before first second) b.seams;
       added = b.added ∙ ap (λ fs. fs ++ mended_files_after (before ++ first) second) a.added
@@ -125,14 +128,14 @@ takes_more before first second {kept} {later} {noted} {after} {old} {between} {n
 -- one packet more
 pub takes_one : (before : List Mended) (m : Mended) (kept : KeptFiles) (noted : List ((ℕ × ℕ) × Seams))
     (found : Option File) (result : Option MarkedFile) →
-    FilesStandFor kept (map packet_of before ++ m.packet ∷ []) → SeamsStandFor noted (before ++ m ∷ []) →
-    file_at (map packet_of before) m.packet ≡ found →
+    FilesStandFor kept (map packet_mended before ++ m.packet ∷ []) → SeamsStandFor noted (before ++ m ∷ []) →
+    file_at (map packet_mended before) m.packet ≡ found →
     option_and_then (λ file. marked file (seams_of m.packet.vc m.packet.apid (before ++ m ∷ [])).fillers) found
     ≡ result →
-    TakesOne before m kept noted result
+    TakesOneMended before m kept noted result
 takes_one before m kept noted found result files seams at is =
     record {
-      files = subst (λ ps. FilesStandFor kept ps) (sym (map-append packet_of before (m ∷ []))) files;
+      files = subst (λ ps. FilesStandFor kept ps) (sym (map-append packet_mended before (m ∷ []))) files;
       seams = seams;
       ends = sym (ap (option_and_then (λ file. marked file
           (seams_of m.packet.vc m.packet.apid (before ++ m ∷ [])).fillers)) at ∙ is);
@@ -140,7 +143,7 @@ takes_one before m kept noted found result files seams at is =
 
 -- and the file that ends with it is appended
 pub takes_and : (before : List Mended) (m : Mended) {kept : KeptFiles} {noted : List ((ℕ × ℕ) × Seams)}
-    {file : Option MarkedFile} {old new : List MarkedFile} → TakesOne before m kept noted file →
+    {file : Option MarkedFile} {old new : List MarkedFile} → TakesOneMended before m kept noted file →
     new ≡ old ++ option_to_list file → TakesMended before (m ∷ []) kept noted old new
 takes_and before m {kept} {noted} {file} {old} {new} one added =
     record {
@@ -195,7 +198,8 @@ stands_unspent inside packets is stands =
 pub stands_more : (images : KeptImages) (files : KeptFiles) (seams : List ((ℕ × ℕ) × Seams)) (most : ℕ)
     (packets : List Good) (p : Good) (file : Option MarkedFile) → images.most ≡ most →
     MenderStandsFor images (packets ++ p ∷ []) →
-    TakesOne (mended_packets most packets ++ map filler_of (gap_before most packets p)) (came p) files seams file →
+    TakesOneMended (mended_packets most packets ++ map filler_of (gap_before most packets p)) (came p) files
+        seams file →
     MendedStandFor (kept_mended images files seams) (packets ++ p ∷ [])
 stands_more images files seams most packets p file same stands takes =
     let ms = mended_packets most packets in
@@ -206,6 +210,6 @@ stands_more images files seams most packets p file same stands takes =
     record {
       unspent = refl;
       images = stands;
-      files = subst (λ (ms : List Mended). FilesStandFor files (map packet_of ms)) (sym all) takes.files;
+      files = subst (λ (ms : List Mended). FilesStandFor files (map packet_mended ms)) (sym all) takes.files;
       seams = λ some. subst (λ (ms : List Mended). SeamsStandFor seams ms) (sym all) takes.seams;
     }

@@ -6,7 +6,7 @@ use Rattle.std.proofs.lemmas.List.{append-nil, map-append}
 use Rattle.std.proofs.lemmas.List.Elements.{filter-append}
 use Rattle.lr_packet.specs.Verdict.{Good}
 use Rattle.lr_file.specs.Files.{packets_of_key}
-use Rattle.lr_mend.specs.Laws.{packet_of}
+use Rattle.lr_mend.specs.Laws.{packet_mended}
 use Rattle.lr_mend.specs.Mending.{Mended, Image, came, filler_of, gap_before, gap_of, mended_after, mended_packets}
 use Rattle.lr_mend.specs.Mending.{mended_with, next_image, open_image}
 use Rattle.lr_mend.specs.Mending.{image_begun_by}
@@ -59,12 +59,12 @@ nothing packets = nothing_after [] packets
 
 -- the packets that came, of mended ones
 abbrev those_that_came : List Mended → List Good
-those_that_came ms = map packet_of (filter (λ m. not m.filler) ms)
+those_that_came ms = map packet_mended (filter (λ m. not m.filler) ms)
 
 came-append : (xs ys : List Mended) → those_that_came (xs ++ ys) ≡ those_that_came xs ++ those_that_came ys
 came-append xs ys =
-    ap (λ ms. map packet_of ms) (filter-append (λ m. not m.filler) xs ys)
-    ∙ map-append packet_of (filter (λ m. not m.filler) xs) (filter (λ m. not m.filler) ys)
+    ap (λ ms. map packet_mended ms) (filter-append (λ m. not m.filler) xs ys)
+    ∙ map-append packet_mended (filter (λ m. not m.filler) xs) (filter (λ m. not m.filler) ys)
 
 no_fillers : (gap : List Good) → those_that_came (map filler_of gap) ≡ []
 no_fillers [] = refl

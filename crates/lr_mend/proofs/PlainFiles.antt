@@ -18,7 +18,7 @@ use Rattle.lr_file.proofs.Stretches.{longer, is_open-one, is_file-one, and_left,
 use Rattle.lr_file.proofs.Histories.{packets_of_key-own, packets_of_key-other}
 use Rattle.lr_file.proofs.KeyLemmas.{same_key}
 use Rattle.lr_mend.specs.FileLaws.{AreAmong}
-use Rattle.lr_mend.specs.Laws.{packet_of}
+use Rattle.lr_mend.specs.Laws.{packet_mended}
 use Rattle.lr_mend.specs.Marks.{marked, whole_file}
 use Rattle.lr_mend.specs.Standing.{KeptImages}
 use Rattle.lr_mend.specs.MendedFiles.{MendedStandFor, kept_mended}
@@ -185,9 +185,9 @@ unmarked most packets p file e =
     ]
 
 heard_with : (most : ℕ) (packets : List Good) (gap : List Good) →
-    map packet_of (mended_packets most packets ++ map filler_of gap) ≡ heard most packets ++ gap
+    map packet_mended (mended_packets most packets ++ map filler_of gap) ≡ heard most packets ++ gap
 heard_with most packets gap =
-    map-append packet_of (mended_packets most packets) (map filler_of gap)
+    map-append packet_mended (mended_packets most packets) (map filler_of gap)
     ∙ ap (λ ps. heard most packets ++ ps) (unflagged gap)
 
 -- so it is the one that ends with the packet among the mended ones
@@ -283,13 +283,13 @@ plain_among most packets = among_after most [] packets (none_among most)
 
 -- ---- no fillers allowed
 
-packets_are : (ps : List Good) → map packet_of (map came ps) ≡ ps
+packets_are : (ps : List Good) → map packet_mended (map came ps) ≡ ps
 packets_are [] = refl
 packets_are (p ∷ ps) = ap (λ qs. p ∷ qs) (packets_are ps)
 
 -- the packets that came are those that are mended
-pub unmended : (packets : List Good) → map packet_of (mended_packets 0 packets) ≡ packets
-unmended packets = ap (map packet_of) (nothing packets) ∙ packets_are packets
+pub unmended : (packets : List Good) → map packet_mended (mended_packets 0 packets) ≡ packets
+unmended packets = ap (map packet_mended) (nothing packets) ∙ packets_are packets
 
 pub unmarked_file : (o : Option File) → option_and_then (λ file. marked file []) o ≡ option_map whole_file o
 unmarked_file None = refl
@@ -315,9 +315,9 @@ plain_file packets p =
     ∙ came_count (seams_of p.vc p.apid ms) p (begins_file p) refl
     ∙ zero_if (count_of p.vc p.apid ms) (begins_file p) (few_fillers 0 packets p) in
     let none : fillers ≡ [] = nil_from_length fillers count in
-    let heard_is : map packet_of ms ≡ packets =
-    ap (λ gap. map packet_of (mended_packets 0 packets ++ map filler_of gap)) (no_gap packets p)
-    ∙ ap (map packet_of) (append-nil (mended_packets 0 packets))
+    let heard_is : map packet_mended ms ≡ packets =
+    ap (λ gap. map packet_mended (mended_packets 0 packets ++ map filler_of gap)) (no_gap packets p)
+    ∙ ap (map packet_mended) (append-nil (mended_packets 0 packets))
     ∙ unmended packets in
     ap (λ ps. option_and_then (λ file. marked file fillers) (file_at ps p)) heard_is
     ∙ ap (λ (l : List ℕ). option_and_then (λ file. marked file l) (file_at packets p)) none
@@ -360,7 +360,7 @@ pub plain_stands : (images : KeptImages) (files : KeptFiles) (seams : List ((ℕ
     images.most ≡ 0 → MendedStandFor (kept_mended images files seams) packets → FilesStandFor files packets
 plain_stands images files seams packets none stands =
     subst (λ (ps : List Good). FilesStandFor files ps)
-    (ap (λ (n : ℕ). map packet_of (mended_packets n packets)) none ∙ unmended packets) stands.files
+    (ap (λ (n : ℕ). map packet_mended (mended_packets n packets)) none ∙ unmended packets) stands.files
 
 -- it stands for one packet more where the files do
 pub stands_plain : (images : KeptImages) (seams : List ((ℕ × ℕ) × Seams)) (old new : KeptFiles) (packets : List Good)
@@ -368,8 +368,8 @@ pub stands_plain : (images : KeptImages) (seams : List ((ℕ × ℕ) × Seams)) 
     ((ps : List Good) → FilesStandFor old ps → FilesStandFor new (ps ++ p ∷ [])) →
     MendedStandFor (kept_mended images new seams) (packets ++ p ∷ [])
 stands_plain images seams old new packets p none stands more =
-    let plain : map packet_of (mended_packets images.most (packets ++ p ∷ [])) ≡ packets ++ p ∷ [] =
-    ap (λ (n : ℕ). map packet_of (mended_packets n (packets ++ p ∷ []))) none ∙ unmended (packets ++ p ∷ []) in
+    let plain : map packet_mended (mended_packets images.most (packets ++ p ∷ [])) ≡ packets ++ p ∷ [] =
+    ap (λ (n : ℕ). map packet_mended (mended_packets n (packets ++ p ∷ []))) none ∙ unmended (packets ++ p ∷ []) in
     record {
       unspent = refl;
       images = record {

@@ -17,7 +17,7 @@ use Rattle.lr_file.proofs.Stretches.{longer, find-end, is_open-end, is_file-end,
 use Rattle.lr_file.proofs.Stretches.{and_right}
 use Rattle.lr_file.proofs.Histories.{packets_of_key-own, packets_of_key-other}
 use Rattle.lr_file.proofs.KeyLemmas.{same_key}
-use Rattle.lr_mend.specs.Laws.{packet_of}
+use Rattle.lr_mend.specs.Laws.{packet_mended}
 use Rattle.lr_mend.specs.Mending.{Image, Filling, came, filler_of, gap_before, gap_of, mended_packets, mended_with}
 use Rattle.lr_mend.specs.Mending.{next_image, continued_image, open_image, fillers_before, fillers_from, missing_before}
 use Rattle.lr_mend.specs.Mending.{can_fill, filling_before, needed_before, count_after, image_begun_by, image_with}
@@ -162,19 +162,19 @@ gap_of-followed most (Some image) s p same next =
 -- ---- the mended packets without the flags
 
 abbrev pub heard : ℕ → List Good → List Good
-heard most packets = map packet_of (mended_packets most packets)
+heard most packets = map packet_mended (mended_packets most packets)
 
-pub unflagged : (gap : List Good) → map packet_of (map filler_of gap) ≡ gap
+pub unflagged : (gap : List Good) → map packet_mended (map filler_of gap) ≡ gap
 unflagged [] = refl
 unflagged (g ∷ gap) = ap (λ gs. g ∷ gs) (unflagged gap)
 
 pub heard-more : (most : ℕ) (packets : List Good) (p : Good) →
     heard most (packets ++ p ∷ []) ≡ (heard most packets ++ gap_before most packets p) ++ p ∷ []
 heard-more most packets p =
-    ap (λ ms. map packet_of ms) (mended-more most packets p)
-    ∙ map-append packet_of (mended_packets most packets) (mended_with most packets p)
+    ap (λ ms. map packet_mended ms) (mended-more most packets p)
+    ∙ map-append packet_mended (mended_packets most packets) (mended_with most packets p)
     ∙ ap (λ ps. heard most packets ++ ps)
-    (map-append packet_of (map filler_of (gap_before most packets p)) (came p ∷ [])
+    (map-append packet_mended (map filler_of (gap_before most packets p)) (came p ∷ [])
     ∙ ap (λ ps. ps ++ p ∷ []) (unflagged (gap_before most packets p)))
     ∙ sym (append_assoc (heard most packets) (gap_before most packets p) (p ∷ []))
 

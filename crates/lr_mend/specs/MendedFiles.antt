@@ -5,7 +5,7 @@ use Rattle.std.specs.Prelude.{option_and_then}
 use Rattle.lr_packet.specs.Verdict.{Good}
 use Rattle.lr_file.specs.Files.{file_at}
 use Rattle.lr_file.specs.Standing.{AreAscending, KeptFiles, FilesStandFor, kept_of_key}
-use Rattle.lr_mend.specs.Laws.{packet_of}
+use Rattle.lr_mend.specs.Laws.{packet_mended}
 use Rattle.lr_mend.specs.Marks.{marked}
 use Rattle.lr_mend.specs.declared.marks.MarkedFile.{MarkedFile}
 use Rattle.lr_mend.specs.declared.mended.Ended.{Ended}
@@ -17,7 +17,7 @@ use Rattle.lr_mend.specs.Standing.{KeptImages, MenderStandsFor}
 abbrev pub mended_file : List Mended → Mended → Option MarkedFile
 mended_file before m =
     option_and_then (λ file. marked file (seams_of m.packet.vc m.packet.apid (before ++ m ∷ [])).fillers)
-    (file_at (map packet_of before) m.packet)
+    (file_at (map packet_mended before) m.packet)
 
 -- for each in turn the file that ends with it
 abbrev pub mended_files_after : List Mended → List Mended → List MarkedFile
@@ -64,7 +64,7 @@ AreMendedSpent kept = kept.spent ≡ true
 pub record MendedStandFor (kept : KeptMended) (packets : List Good) : Type 0 where
   pub unspent : kept.spent ≡ false
   pub images : MenderStandsFor kept.images packets
-  pub files : FilesStandFor kept.files (map packet_of (mended_packets kept.images.most packets))
+  pub files : FilesStandFor kept.files (map packet_mended (mended_packets kept.images.most packets))
   pub seams : 0 < kept.images.most → SeamsStandFor kept.seams (mended_packets kept.images.most packets)
 
 -- what is kept while memory isn't wanting
@@ -82,13 +82,13 @@ pub record TakesPacket (most : ℕ) (packets : List Good) (packet : Good) (kept 
 -- mended packets were taken after others, and the files that end with them appended
 pub record TakesMended (before ms : List Mended) (kept : KeptFiles) (noted : List ((ℕ × ℕ) × Seams))
     (old new : List MarkedFile) : Type 0 where
-  pub files : FilesStandFor kept (map packet_of (before ++ ms))
+  pub files : FilesStandFor kept (map packet_mended (before ++ ms))
   pub seams : SeamsStandFor noted (before ++ ms)
   pub added : new ≡ old ++ mended_files_after before ms
 
 -- one more was taken, and this is the file that ends with it
-pub record TakesOne (before : List Mended) (m : Mended) (kept : KeptFiles) (noted : List ((ℕ × ℕ) × Seams))
+pub record TakesOneMended (before : List Mended) (m : Mended) (kept : KeptFiles) (noted : List ((ℕ × ℕ) × Seams))
     (file : Option MarkedFile) : Type 0 where
-  pub files : FilesStandFor kept (map packet_of (before ++ m ∷ []))
+  pub files : FilesStandFor kept (map packet_mended (before ++ m ∷ []))
   pub seams : SeamsStandFor noted (before ++ m ∷ [])
   pub ends : file ≡ mended_file before m

@@ -50,12 +50,12 @@ filler_body image packet =
     if image.coded then filling_of image packet else replicate (length (filling_of image packet)) 0
 
 -- how much of the image a filler has
-abbrev pub unit_of : Image → Good → ℕ
-unit_of image packet = max 1 (units_in image.coded (filling_of image packet))
+abbrev pub filler_units : Image → Good → ℕ
+filler_units image packet = max 1 (units_in image.coded (filling_of image packet))
 
 -- how many fillers the image needs to be whole: it has one at least, which ends it
 abbrev pub needed_before : Image → Good → ℕ
-needed_before image packet = max 1 ((image.wanted + unit_of image packet - 1) / unit_of image packet)
+needed_before image packet = max 1 ((image.wanted + filler_units image packet - 1) / filler_units image packet)
 
 -- the image is whole with the packets that are missing, so this one isn't of it
 abbrev pub is_over : Image → Good → Bool
@@ -129,7 +129,7 @@ image_with image fillers packet =
       first = false;
       fillers = image.fillers + fillers;
       coded = image.coded;
-      wanted = image.wanted - (unit_of image packet * fillers + units_in image.coded packet.body);
+      wanted = image.wanted - (filler_units image packet * fillers + units_in image.coded packet.body);
     }
 
 -- the packet goes on with the image: that isn't over, and no packet is missing, or fillers stand in for them

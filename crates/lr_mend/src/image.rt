@@ -15,7 +15,7 @@ ghost use Rattle.lr_mend.specs.Mending.{
   is_over,
   missing_before,
   needed_before,
-  unit_of,
+  filler_units,
 };
 ghost use Rattle.lr_bits.specs.Sizes.{most_body_bytes};
 ghost use Rattle.lr_mend.specs.Reading.{opening};
@@ -140,7 +140,7 @@ impl OpenImage {
 
     /// How much of the image a filler has.
     fn unit(&self, packet: &GoodPacket) -> u32
-        ensures value { result ≡ unit_of self.now (good packet.now) }
+        ensures value { result ≡ filler_units self.now (good packet.now) }
         ensures some { 1 ≤ result }
         ensures few { result ≤ most_body_bytes }
     {

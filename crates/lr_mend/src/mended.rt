@@ -6,9 +6,9 @@ ghost use Rattle.lr_packet.specs.Verdict.{Good};
 ghost use Rattle.lr_packet.specs.Reading.{good};
 ghost use Rattle.lr_file.specs.Standing.{FilesStandFor};
 ghost use Rattle.std.specs.Option.{option_map};
-ghost use Rattle.lr_mend.specs.Laws.{packet_of};
+ghost use Rattle.lr_mend.specs.Laws.{packet_mended};
 ghost use Rattle.lr_mend.specs.Marks.{whole_file};
-ghost use Rattle.lr_mend.specs.MendedFiles.{AreMendedSpent, MendedStandFor, SeamsStandFor, TakesMended, TakesOne};
+ghost use Rattle.lr_mend.specs.MendedFiles.{AreMendedSpent, MendedStandFor, SeamsStandFor, TakesMended, TakesOneMended};
 ghost use Rattle.lr_mend.specs.MendedFiles.{TakesPacket, file_of_packet, files_of_gap, kept_mended};
 ghost use Rattle.lr_mend.specs.Mending.{Mended as Mended', came, filler_of, gap_before, mended_packets};
 ghost use Rattle.lr_mend.specs.Seams.{Seams};
@@ -39,9 +39,9 @@ fn take_one(
     packet: &GoodPacket,
     filler: bool,
 ) -> Result<Option<MarkedFile>, NoMemory>
-    ensures { (before : List Mended') → FilesStandFor files.old (map packet_of before)
+    ensures { (before : List Mended') → FilesStandFor files.old (map packet_mended before)
         → SeamsStandFor seams.old before →
-        IfOk result (TakesOne before (record { packet = good packet.now; filler = filler }) files.new seams.new) }
+        IfOk result (TakesOneMended before (record { packet = good packet.now; filler = filler }) files.new seams.new) }
 {
     seams.note(packet, filler)?;
     let Some(file) = files.push(packet)? else {
@@ -68,7 +68,7 @@ fn take_gap(
     gap: Gap,
     out: &mut Vec<MarkedFile>,
 ) -> Result<(), NoMemory>
-    ensures { (before : List Mended') → FilesStandFor files.old (map packet_of before)
+    ensures { (before : List Mended') → FilesStandFor files.old (map packet_mended before)
         → SeamsStandFor seams.old before →
         OnOk result (TakesMended before (map filler_of gap.entry) files.new seams.new out.old.items out.new.items) }
 {
@@ -91,12 +91,12 @@ fn take_packet(
     out: &mut Vec<MarkedFile>,
 ) -> Result<Option<MarkedFile>, NoMemory>
     ensures takes { (packets : List Good) → MenderStandsFor mender.old packets →
-        FilesStandFor files.old (map packet_of (mended_packets mender.old.most packets)) →
+        FilesStandFor files.old (map packet_mended (mended_packets mender.old.most packets)) →
         SeamsStandFor seams.old (mended_packets mender.old.most packets) →
-        IfOk result (TakesOne (mended_packets mender.old.most packets ++ map filler_of (gap_before mender.old.most
+        IfOk result (TakesOneMended (mended_packets mender.old.most packets ++ map filler_of (gap_before mender.old.most
         packets (good packet.now))) (came (good packet.now)) files.new seams.new) }
     ensures gap { (packets : List Good) → MenderStandsFor mender.old packets →
-        FilesStandFor files.old (map packet_of (mended_packets mender.old.most packets)) →
+        FilesStandFor files.old (map packet_mended (mended_packets mender.old.most packets)) →
         SeamsStandFor seams.old (mended_packets mender.old.most packets) →
         OnOk result (out.new.items ≡ out.old.items ++ files_of_gap mender.old.most packets (good packet.now)) }
     ensures images { (packets : List Good) → MenderStandsFor mender.old packets →

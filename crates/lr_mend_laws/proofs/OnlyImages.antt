@@ -18,7 +18,7 @@ use Rattle.lr_file.specs.Steps.{is_next}
 use Rattle.lr_file.proofs.Histories.{packets_of_key-own}
 use Rattle.lr_file.proofs.KeyLemmas.{same_key}
 use Rattle.lr_file.proofs.Stretches.{and_left, is_file-one, is_open-one, longer}
-use Rattle.lr_mend.specs.Laws.{packet_of}
+use Rattle.lr_mend.specs.Laws.{packet_mended}
 use Rattle.lr_mend.specs.Mending.{Filling, Image, Mended, begins_file, came, continued_image, count_after, fillers_from}
 use Rattle.lr_mend.specs.Mending.{filling_before, gap_before, gap_of}
 use Rattle.lr_mend.specs.Mending.{fillers_before, filler_of, image_begun_by, mended_packets, next_image, open_image}
@@ -410,12 +410,12 @@ by_file (Some file) places m b e first opens = by_places file places m b e (firs
 -- a file that ends with one of them
 pub one_wanted : (before : List Mended) (m : Mended) (file : MarkedFile) → mended_file before m ≡ Some file →
     (0 < count_of m.packet.vc m.packet.apid (before ++ m ∷ []) →
-    Opens (latest m.packet.vc m.packet.apid (map packet_of before ++ m.packet ∷ []))) → Wanted file
+    Opens (latest m.packet.vc m.packet.apid (map packet_mended before ++ m.packet ∷ []))) → Wanted file
 one_wanted before m file e opens =
-    by_file (file_at (map packet_of before) m.packet)
+    by_file (file_at (map packet_mended before) m.packet)
     (seams_of m.packet.vc m.packet.apid (before ++ m ∷ [])).fillers file
-    (latest m.packet.vc m.packet.apid (map packet_of before ++ m.packet ∷ [])) e
-    (first_is (map packet_of before) m.packet) opens
+    (latest m.packet.vc m.packet.apid (map packet_mended before ++ m.packet ∷ [])) e
+    (first_is (map packet_mended before) m.packet) opens
 
 pub all_of : (P : MarkedFile → Type 0) (o : Option MarkedFile) → ((m : MarkedFile) → o ≡ Some m → P m) →
     All P (option_to_list o)
@@ -428,7 +428,7 @@ filler_begins_none false = refl
 
 -- those that end with fillers
 all_fillers : (filling : Filling) (n count : ℕ) (before : List Mended) →
-    Opens (latest filling.vc filling.apid (map packet_of before)) →
+    Opens (latest filling.vc filling.apid (map packet_mended before)) →
     All Wanted (mended_files_after before (map filler_of (fillers_from filling n count)))
 unfolding fillers_from
 all_fillers filling zero count before opens = All-nil Wanted
@@ -441,19 +441,19 @@ all_fillers filling (suc n) count before opens =
       body = filling.body;
     } in
     let none : begins_file first ≡ false = filler_begins_none (filling.ends && eqb n 0) in
-    let now : Opens (latest filling.vc filling.apid (map packet_of before ++ first ∷ [])) =
-    subst Opens (sym (latest-own (map packet_of before) first))
-    (still (latest filling.vc filling.apid (map packet_of before)) first none opens) in
+    let now : Opens (latest filling.vc filling.apid (map packet_mended before ++ first ∷ [])) =
+    subst Opens (sym (latest-own (map packet_mended before) first))
+    (still (latest filling.vc filling.apid (map packet_mended before)) first none opens) in
     All-append Wanted (option_to_list (mended_file before (filler_of first)))
     (mended_files_after (before ++ filler_of first ∷ []) (map filler_of (fillers_from filling n (count_after count))))
     (all_of Wanted (mended_file before (filler_of first))
     (λ file e. one_wanted before (filler_of first) file e (λ _. now)))
     (all_fillers filling n (count_after count) (before ++ filler_of first ∷ [])
     (subst (λ (ps : List Good). Opens (latest filling.vc filling.apid ps))
-    (sym (map-append packet_of before (filler_of first ∷ []))) now))
+    (sym (map-append packet_mended before (filler_of first ∷ []))) now))
 
 all_gap : (most : ℕ) (o : Option Image) (p : Good) (before : List Mended) →
-    ((image : Image) → o ≡ Some image → Opens (latest p.vc p.apid (map packet_of before))) →
+    ((image : Image) → o ≡ Some image → Opens (latest p.vc p.apid (map packet_mended before))) →
     All Wanted (mended_files_after before (map filler_of (gap_of most o p)))
 unfolding gap_of
 all_gap most None p before opens = All-nil Wanted
@@ -541,15 +541,15 @@ unfolding file_of_packet SameLatest
 packet_wanted most packets p file e =
     let gap = gap_before most packets p in
     let before = mended_packets most packets ++ map filler_of gap in
-    let heard_is : map packet_of before ≡ heard most packets ++ gap =
-    map-append packet_of (mended_packets most packets) (map filler_of gap)
+    let heard_is : map packet_mended before ≡ heard most packets ++ gap =
+    map-append packet_mended (mended_packets most packets) (map filler_of gap)
     ∙ ap (λ l. heard most packets ++ l) (unflagged gap) in
     one_wanted before (came p) file e (λ some.
     let count = ap (λ (s : Seams). length s.fillers) (came_seams p.vc p.apid before p (same_self p.vc p.apid))
     ∙ came_count (seams_of p.vc p.apid before) p (begins_file p) refl in
     let both = positive (count_of p.vc p.apid before) (begins_file p) (subst (λ (n : ℕ). 0 < n) count some) in
     let opens = opened_before most packets p (opened most packets p.vc p.apid) both.1 in
-    subst Opens (sym (latest-own (map packet_of before) p
+    subst Opens (sym (latest-own (map packet_mended before) p
     ∙ ap (λ (l : List Good). begun (latest p.vc p.apid l) p) heard_is
     ∙ ap (λ (b : Option Good). begun b p) (with_gap most packets p (same_latest most packets) p.vc p.apid)))
     (still (latest p.vc p.apid packets) p both.0 opens))

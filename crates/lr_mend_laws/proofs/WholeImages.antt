@@ -24,7 +24,7 @@ use Rattle.lr_file.proofs.Histories.{packets_of_key-own}
 use Rattle.lr_file.proofs.Stretches.{and_left, and_right, is_file-one, is_open-one, longer}
 use Rattle.lr_mend.specs.Mending.{Filling, Image, begins_file, can_fill, count_after, filler_body, fillers_before}
 use Rattle.lr_mend.specs.Mending.{fillers_from, filling_before, filling_of, gap_before, gap_of, image_with, open_image}
-use Rattle.lr_mend.specs.Mending.{continued_image, goes_on as goes_on_with, image_begun_by, next_image, unit_of}
+use Rattle.lr_mend.specs.Mending.{continued_image, goes_on as goes_on_with, image_begun_by, next_image, filler_units}
 use Rattle.lr_mend.proofs.Fillers.{fillers_before-not}
 use Rattle.lr_mend.proofs.StayingFiles.{heard, heard-more}
 use Rattle.lr_headers.proofs.Readings.{headers_are_read}
@@ -49,7 +49,7 @@ use Rattle.lr_image.specs.Plain.{whole_pixels}
 use Rattle.lr_image.proofs.EachFile.{files_have_outcomes}
 use Rattle.lr_image.proofs.ShapeLemmas.{shape_sound}
 use Rattle.lr_headers.proofs.Tilings.{headers_are_one, headers_have_no_fault}
-use Rattle.lr_mend.specs.Laws.{packet_of}
+use Rattle.lr_mend.specs.Laws.{packet_mended}
 use Rattle.lr_mend.specs.Mending.{is_over, mended_packets, missing_before, needed_before}
 use Rattle.std.proofs.lemmas.Bool.{leb-true}
 use Rattle.lr_mend.specs.Mending.{Mended, filler_of}
@@ -310,7 +310,7 @@ body_length image p plain =
     ap (λ (b : Bool). length (cond b (filling_of image p) (replicate (length (filling_of image p)) 0))) plain
     ∙ length-replicate (length (filling_of image p)) 0
 
-unit_is : (image : Image) (p : Good) → image.coded ≡ false → unit_of image p ≡ max 1 (length (filling_of image p))
+unit_is : (image : Image) (p : Good) → image.coded ≡ false → filler_units image p ≡ max 1 (length (filling_of image p))
 unit_is image p plain = ap (λ (b : Bool). max 1 (units_in b (filling_of image p))) plain
 
 some_filling : (most : ℕ) (image : Image) (p : Good) (k : ℕ) → fillers_before most image p ≡ suc k →
@@ -324,11 +324,11 @@ some_filling most image p k many = by_can (can_fill image p) refl
     by_can false can = absurd (omega (arith, many, fillers_before-not most image p can))
 
 units_same : (most : ℕ) (image : Image) (p : Good) → image.coded ≡ false → (n : ℕ) → fillers_before most image p ≡ n →
-    unit_of image p * n ≡ n * length (filler_body image p)
+    filler_units image p * n ≡ n * length (filler_body image p)
 units_same most image p plain zero none = omega arith
 units_same most image p plain (suc k) many =
     let some = some_filling most image p k many in
-    let unit : unit_of image p ≡ length (filler_body image p) =
+    let unit : filler_units image p ≡ length (filler_body image p) =
     unit_is image p plain
     ∙ (let e : max 1 (length (filling_of image p)) ≡ length (filling_of image p) = omega (arith, some) in e)
     ∙ sym (body_length image p plain) in
@@ -381,7 +381,7 @@ module _ (most : ℕ) (packets : List Good) (p : Good) where
 
   gap_size : (old : Image) → open_image most p.vc p.apid packets ≡ Some old → old.coded ≡ false →
       size_of stretch ≡ size_of (since p.vc p.apid (heard most packets))
-      + unit_of old p * fillers_before most old p
+      + filler_units old p * fillers_before most old p
   unfolding gap_before gap_of
   gap_size old was plain =
       let n = fillers_before most old p in
@@ -395,7 +395,7 @@ module _ (most : ℕ) (packets : List Good) (p : Good) where
       Stocked most packets p.vc p.apid old.wanted → Stocked most (packets ++ p ∷ []) p.vc p.apid image.wanted
   went_stocked image old was is plain none it =
       let coded : old.coded ≡ false = sym (ap (λ (i : Image). i.coded) is) ∙ plain in
-      let made = unit_of old p * fillers_before most old p in
+      let made = filler_units old p * fillers_before most old p in
       let size : size_of (since p.vc p.apid (heard most (packets ++ p ∷ []))) ≡ size_of stretch + length p.body =
       ap size_of (heard_since ∙ ap (λ (b : Bool). cond b (p ∷ []) (stretch ++ p ∷ [])) none)
       ∙ size_of-append stretch (p ∷ []) ∙ ap (λ k. size_of stretch + k) (size_of-one p) in
@@ -644,8 +644,8 @@ module _ (filling : Filling) (begin : Good) (need : ℕ) (has : HasNeed begin.bo
 
   -- one of them
   module _ (n count : ℕ) (before : List Mended)
-      (is : latest filling.vc filling.apid (map packet_of before) ≡ Some begin)
-      (enough : Enough (suc n) (map packet_of before)) where
+      (is : latest filling.vc filling.apid (map packet_mended before) ≡ Some begin)
+      (enough : Enough (suc n) (map packet_mended before)) where
     abbrev first : Good
     first = record {
       vc = filling.vc;
@@ -656,7 +656,7 @@ module _ (filling : Filling) (begin : Good) (need : ℕ) (has : HasNeed begin.bo
     }
 
     abbrev ps : List Good
-    ps = map packet_of before
+    ps = map packet_mended before
 
     first_none : begins_file first ≡ false
     first_none = filler_begins_none (filling.ends && eqb n 0)
@@ -700,16 +700,16 @@ module _ (filling : Filling) (begin : Good) (need : ℕ) (has : HasNeed begin.bo
         no_file (Some file) never between at places m e = absurd (never file between at)
 
   ended_fillers : (n count : ℕ) (before : List Mended) →
-      latest filling.vc filling.apid (map packet_of before) ≡ Some begin →
-      ((k : ℕ) → n ≡ suc k → Enough n (map packet_of before)) →
+      latest filling.vc filling.apid (map packet_mended before) ≡ Some begin →
+      ((k : ℕ) → n ≡ suc k → Enough n (map packet_mended before)) →
       All Whole (mended_files_after before (map filler_of (fillers_from filling n count)))
   unfolding fillers_from
   ended_fillers zero count before is enough = All-nil Whole
   ended_fillers (suc n) count before is enough =
       let all = enough n refl in
       let one = filler_of (first n count before is all) in
-      let same : map packet_of before ++ first n count before is all ∷ [] ≡ map packet_of (before ++ one ∷ []) =
-      sym (map-append packet_of before (one ∷ [])) in
+      let same : map packet_mended before ++ first n count before is all ∷ [] ≡ map packet_mended (before ++ one ∷ []) =
+      sym (map-append packet_mended before (one ∷ [])) in
       All-append Whole (option_to_list (mended_file before one))
       (mended_files_after (before ++ one ∷ []) (map filler_of (fillers_from filling n (count_after count))))
       (all_of Whole (mended_file before one) (one_file n count before is all (filling.ends && eqb n 0) refl))
@@ -753,8 +753,8 @@ made_ends most packets p image found plain =
     ended_fillers filling it.begin it.need it.has n (count_after image.count) ms
     (same_latest most packets p.vc p.apid ∙ it.is)
     (λ k many over.
-    let unit : 0 < unit_of image p = omega arith in
-    let enough = over_enough image.wanted (unit_of image p) n unit (number_is most image p k many over) in
+    let unit : 0 < filler_units image p = omega arith in
+    let enough = over_enough image.wanted (filler_units image p) n unit (number_is most image p k many over) in
     let units = units_same most image p plain n refl in
     omega (arith, it.enough, enough, units)) in
     subst (λ (o : Option Image). All Whole (mended_files_after ms (map filler_of (gap_of most o p)))) (sym found) all

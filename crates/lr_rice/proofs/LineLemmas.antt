@@ -18,7 +18,7 @@ use Rattle.lr_rice.specs.CodedLines.{site_at}
 use Rattle.lr_rice.specs.CodedLines.{block_count, greatest, head_string, identifier, left_in_segment, part_string}
 use Rattle.lr_rice.specs.CodedLines.{body_string, places, run_of, span_of, string_from, values_from, values_of}
 use Rattle.lr_rice.specs.LineFaults.{LineFails, NoIdentifier}
-use Rattle.lr_rice.specs.Samples.{WritesPart, Written, places_after, sample_after, samples_from, whole_block}
+use Rattle.lr_rice.specs.Samples.{WritesPart, WrittenSamples, places_after, sample_after, samples_from, whole_block}
 use Rattle.lr_rice.proofs.BlockLemmas.{run_of-pos}
 use Rattle.lr_rice.proofs.SampleLemmas.{HaveValues-samples_from, length-samples_from, sample_after-append}
 use Rattle.lr_rice.proofs.SampleLemmas.{sample_of-zero, samples_from-append, samples_from-cons}
@@ -373,7 +373,7 @@ pub part_put : {form : Form} {reference : ℕ} {string now rest old out new : Li
 part_put {form} {reference} {string} {now} {rest} {old} {out} {new} {option} {at} {last} {blocks} {next} {left} reached
     part left_is wide columns size =
     let start = at * form.block in
-    let written : List ℕ → Written =
+    let written : List ℕ → WrittenSamples =
     λ l. record { before = last; old = l; new = new; blocks = blocks; last = next } in
     let inside : start ≤ length old = omega (arith, block-before form at wide reached.before, columns) in
     let none : post_of start (length out - start) out ≡ [] = drop_all (length out - start) (drop start out)

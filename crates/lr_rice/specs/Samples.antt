@@ -67,7 +67,7 @@ pub record ReadsBlock (site : BlockSite) (option : BlockOption) (string rest pla
 
 -- samples of this many blocks, which were written over the old places; `before` is the sample before them, and `last`
 -- the last of them
-pub record Written : Type 0 where
+pub record WrittenSamples : Type 0 where
   pub before : ℕ
   pub old : List ℕ
   pub new : List ℕ
@@ -75,7 +75,7 @@ pub record Written : Type 0 where
   pub last : ℕ
 
 -- a part was read, and its samples were written; the last one is known, if all have a place
-pub record WritesPart (site : BlockSite) (option : BlockOption) (string rest : List ℕ) (samples : Written)
+pub record WritesPart (site : BlockSite) (option : BlockOption) (string rest : List ℕ) (samples : WrittenSamples)
     : Type 0 where
   pub part : Part
   pub reads : ReadsPart site option string rest part

@@ -16,7 +16,7 @@ use Rattle.lr_rice.specs.CodedLines.{Form, form_of}
 use Rattle.lr_image.specs.Pgm.{line_pixels}
 use Rattle.lr_image.specs.Picture.{Picture}
 use Rattle.lr_rice_coder.specs.Coded.{IsCodedLine, IsLong, byte_count}
-use Rattle.lr_rice_coder.specs.Fronts.{AppendsLines, AppendsRow, HoldsLines, file_with, front_with, picture_with}
+use Rattle.lr_rice_coder.specs.Fronts.{AppendsLines, AppendsRow, HoldsLines, file_with_lines, front_with, picture_with}
 use Rattle.lr_rice_coder.specs.declared.files.LineBytes.{LineBytes}
 use Rattle.lr_rice_coder.specs.Refusals.{AreShort, IsLongAt}
 use Rattle.lr_rice_coder.specs.Repacked.{AreCodedLines, form_with, line_size, rows_of}
@@ -216,9 +216,9 @@ first_size counter s block others size = omega arith
 -- what the code hands in makes the file
 pub record IsMade (file : File) (s : Structure) (block : ℕ) (others : List ℕ) (lines : List (List ℕ)) (vc apid : ℕ)
     (lengths bytes : List ℕ) : Type 0 where
-  pub is_file : IsFile (file_with file s block others lines)
+  pub is_file : IsFile (file_with_lines file s block others lines)
   pub makes : MakeFile vc apid lengths bytes
-  pub same : file_of vc apid lengths bytes ≡ file_with file s block others lines
+  pub same : file_of vc apid lengths bytes ≡ file_with_lines file s block others lines
 
 pub is_made : (file : File) (s : Structure) (pixels others : List ℕ) (block : ℕ) (lines : List (List ℕ))
     (lengths bytes all : List ℕ) (vc apid counter : ℕ) → AreCodedLines (picture_with s pixels) block lines
@@ -229,7 +229,7 @@ pub is_made : (file : File) (s : Structure) (pixels others : List ℕ) (block : 
 is_made file s pixels others block lines lengths bytes all vc apid counter coded narrow vc_is vc_fits apid_is apid_fits
     counter_is all_is bytes_are lengths_are short few =
     let front = front_with (counter_of file) s block others (length (concat lines)) in
-    let whole = file_with file s block others lines in
+    let whole = file_with_lines file s block others lines in
     let wide = first_size (counter_of file) s block others (length (concat lines)) in
     let file_is_one : IsFile whole =
     file_is file.vc file.apid front (picture_with s pixels) block lines (omega (arith, vc_is, vc_fits))

@@ -7,7 +7,7 @@ use Rattle.lr_headers.specs.declared.fields.Structure.{Structure}
 use Rattle.lr_image.specs.Picture.{Picture, IsPicture}
 use Rattle.lr_image.specs.Images.{IsImageOf}
 use Rattle.lr_rice_coder.specs.Coded.{IsBlockSize}
-use Rattle.lr_rice_coder.specs.Fronts.{IsCodedImage, MakesFile, MakingFails, file_with, front_with, picture_with}
+use Rattle.lr_rice_coder.specs.Fronts.{IsCodedImage, MakesFile, MakingFails, file_with_lines, front_with, picture_with}
 use Rattle.lr_rice_coder.specs.Refusals.{HasRepackFaultOrMemory}
 use Rattle.lr_rice_coder.specs.Repacked.{IsRepacked, IsSource, other_records, repacked_file}
 use Rattle.lr_rice_coder.specs.declared.fault.RepackFault.{RepackFault}
@@ -78,10 +78,10 @@ source file picture header s pixels others is =
 
 same_file : (file : File) (header : Header) (s : Structure) (pixels others : List ℕ) (block : ℕ) (lines : List (List ℕ))
     → others ≡ other_records header
-    → file_with file s block others lines ≡ repacked_file file header (picture_with s pixels) block lines
+    → file_with_lines file s block others lines ≡ repacked_file file header (picture_with s pixels) block lines
 unfolding front_with
 same_file file header s pixels others block lines is =
-    ap (λ (o : List ℕ). file_with file s block o lines) is
+    ap (λ (o : List ℕ). file_with_lines file s block o lines) is
 
 pub repacked : (file : File) (picture : Picture) (header : Header) (s : Structure) (pixels others : List ℕ) (block : ℕ)
     (new : File) → IsReadFile file picture header s pixels others → MakesFile file s pixels

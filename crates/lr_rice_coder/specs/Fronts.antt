@@ -38,8 +38,8 @@ front_with counter s block others size =
     ++ others)
 
 -- the file with this first body and these lines
-abbrev pub file_with : File → Structure → ℕ → List ℕ → List (List ℕ) → File
-file_with file s block others lines = record {
+abbrev pub file_with_lines : File → Structure → ℕ → List ℕ → List (List ℕ) → File
+file_with_lines file s block others lines = record {
   vc = file.vc;
   apid = file.apid;
   bodies = front_with (counter_of file) s block others (length (concat lines)) ∷ lines;
@@ -82,7 +82,7 @@ pub record MakesFile (file : File) (s : Structure) (pixels : List ℕ) (records 
   pub counter : counter_of file < 65536
   pub lines : List (List ℕ)
   pub coded : AreCodedLines (picture_with s pixels) records.block lines
-  pub is_new : new ≡ file_with file s records.block records.others lines
+  pub is_new : new ≡ file_with_lines file s records.block records.others lines
   pub is_file : IsFile new
 
 -- why they weren't; want of memory may come at any time

@@ -7,7 +7,7 @@ use Rattle.lr_gate.proofs.Fewer.{same_left}
 use Rattle.lr_gate.specs.Calls.{HasFinished}
 use Rattle.lr_gate.specs.Left.{unfinished_count}
 use Rattle.lr_gate.specs.Shows.{count_of}
-use Rattle.lr_gate.specs.Seats.{cells_of, workers_of, IsConductorOf, view_of, put_count, TakesOldest, Helps}
+use Rattle.lr_gate.specs.Seats.{cells_of, workers_of, IsConductorOf, view_of, jobs_put, TakesOldest, Helps}
 use Rattle.lr_gate.specs.Seats.{SomeUnfinished}
 use Rattle.lr_gate.specs.Steps.{after_put}
 use Rattle.lr_gate.specs.declared.gate.Conductor.{Conductor}
@@ -65,7 +65,7 @@ module _ {L W J D Cause : Type 0} (terms : SourceTerms L J Cause) (gate : Gate W
     taken_more : (view_of conductor').taken ≡ (view_of old.conductor).taken + 1
     taken_more = ap (λ (v : View J). v.taken) takes.3.1
 
-    some_waiting : (view_of old.conductor).taken < put_count (view_of old.conductor)
+    some_waiting : (view_of old.conductor).taken < jobs_put (view_of old.conductor)
     some_waiting = at_length (view_of old.conductor).jobs (view_of old.conductor).taken takes.0 takes.1
 
     pub goes_on_kept : IsConductorOf gate conductor' → MayGoOn terms gate entry (round_state conductor' traffic' now)
@@ -107,7 +107,7 @@ module _ {L W J D Cause : Type 0} (terms : SourceTerms L J Cause) (gate : Gate W
         → GivesJob terms (so_far_from start) old.source now job
     given_from start begins = gives (so_far_from start) (may.led_on start begins)
 
-    pub few_put : put_count (view_of old.conductor) < MOST_JOBS
+    pub few_put : jobs_put (view_of old.conductor) < MOST_JOBS
     few_put = (given_from may.ready.0 may.ready.1).few
 
     module _ (conductor' : Conductor W J D) (traffic' : Traffic)
@@ -117,7 +117,7 @@ module _ {L W J D Cause : Type 0} (terms : SourceTerms L J Cause) (gate : Gate W
       jobs_more : (view_of conductor').jobs ≡ (view_of old.conductor).jobs ++ job ∷ []
       jobs_more = ap (λ (v : View J). v.jobs) is
 
-      longer : put_count (view_of conductor') ≡ put_count (view_of old.conductor) + 1
+      longer : jobs_put (view_of conductor') ≡ jobs_put (view_of old.conductor) + 1
       longer = ap (λ (l : List J). length l) jobs_more ∙ length-append (view_of old.conductor).jobs (job ∷ [])
 
       pub goes_on_put : IsConductorOf gate conductor' → MayGoOn terms gate entry (round_state conductor' traffic' now)
@@ -245,10 +245,10 @@ module _ {L W J D Cause : Type 0} (terms : SourceTerms L J Cause) (gate : Gate W
 
   -- where no one else works, some job can be done
   pub never_waits : workers_of gate ≡ 0 → (did : Bool) → IsTrue did ↔ SomeUnfinished (view_of third.conductor)
-      → did ≡ false → (view_of first.conductor).taken < put_count (view_of first.conductor) → ⊥
+      → did ≡ false → (view_of first.conductor).taken < jobs_put (view_of first.conductor) → ⊥
   never_waits alone did iff none some_left =
       let open_job : ¬ HasFinished (view_of first.conductor) (view_of first.conductor).taken = ⊎_elim
-      (λ (e : put_count (view_of first.conductor) ≡ (view_of first.conductor).taken).
+      (λ (e : jobs_put (view_of first.conductor) ≡ (view_of first.conductor).taken).
       absurd (omega (arith, e, some_left))) (λ u. u) (kept.alone alone) in
       let unfinished : SomeUnfinished (view_of second.conductor) = (
         (view_of first.conductor).taken,
@@ -269,7 +269,7 @@ none_more {L} {W} {J} {D} terms old new false fewer none =
       arith,
       put.no_more,
       ap (λ (k : Conductor W J D). unfinished_count (view_of k)) put.same,
-      ap (λ (k : Conductor W J D). put_count (view_of k)) put.same,
+      ap (λ (k : Conductor W J D). jobs_put (view_of k)) put.same,
       ap (λ (k : Conductor W J D). (view_of k).taken) put.same,
       ap {B = ℕ} (λ (t : Traffic). cond t.over 0 1) put.same_traffic,
     )

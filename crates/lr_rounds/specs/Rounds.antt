@@ -2,7 +2,7 @@
 use Rattle.std.specs.Prelude.{◌≡◌, ◌<◌, ◌≤◌, ◌+◌, ◌-◌, ◌*◌, ◌⊎◌, ℕ, true, false, cond, Result, IfOk, IfErr}
 use denote.Ref.{MutBor}
 use Rattle.lr_gate.specs.Left.{unfinished_count}
-use Rattle.lr_gate.specs.Seats.{cells_of, workers_of, IsConductorOf, view_of, put_count}
+use Rattle.lr_gate.specs.Seats.{cells_of, workers_of, IsConductorOf, view_of, jobs_put}
 use Rattle.lr_gate.specs.Seats.{OldestWaits, TakesNothing}
 use Rattle.lr_gate.specs.Steps.{after_put}
 use Rattle.lr_gate.specs.declared.gate.Conductor.{Conductor}
@@ -29,7 +29,7 @@ round_state conductor traffic source = record { conductor = conductor; traffic =
 abbrev pub rounds_left : {L W J D Cause : Type 0} → SourceTerms L J Cause → RoundState L W J D → ℕ
 rounds_left terms at =
     3 * terms.left at.source + cond at.traffic.over 0 1 + unfinished_count (view_of at.conductor)
-    + (put_count (view_of at.conductor) - (view_of at.conductor).taken)
+    + (jobs_put (view_of at.conductor) - (view_of at.conductor).taken)
 
 -- ---- calls that put no job and take none
 
@@ -86,7 +86,7 @@ module _ {L W J D Cause : Type 0} (terms : SourceTerms L J Cause) where
       pub ready : (start : L) × HasGivenNothing terms start entry
       pub led_on : (start : L) → HasGivenNothing terms start entry
           → terms.stands (led start (view_of at.conductor).jobs (view_of at.conductor).taken) at.source
-      pub waiting : at.traffic.waiting + (view_of at.conductor).taken ≡ put_count (view_of at.conductor)
+      pub waiting : at.traffic.waiting + (view_of at.conductor).taken ≡ jobs_put (view_of at.conductor)
       pub over : at.traffic.over ≡ true → terms.is_over at.source
 
     -- what a round came to: it goes on, or all was kept and there is no more

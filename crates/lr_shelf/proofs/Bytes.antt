@@ -6,7 +6,7 @@ use Rattle.std.proofs.lemmas.Bool.{eqb-false, eqb-true}
 use Rattle.std.proofs.lemmas.List.{drop-drop}
 use Rattle.std.proofs.lemmas.List.Elements.{All-append, All-take}
 use Rattle.lr_shelf_format.specs.Items.{Begins, HasForm, Holds, computed_checksum, stored_checksum}
-use Rattle.lr_shelf_format.specs.Record.{file_of_body, head_of, origin_of}
+use Rattle.lr_shelf_format.specs.Record.{file_of_body, head_of, origin_of_bytes}
 use Rattle.lr_shelf_format.specs.Way.{HasRecord, Sound, IsFound, item_at}
 use Rattle.lr_shelf_format.specs.declared.entry.Entry.{Entry}
 use Rattle.lr_shelf_format.specs.declared.item.ItemHead.{ItemHead}
@@ -36,7 +36,8 @@ fit_item bytes entry size extent front end =
 
 stored_by : Bool → List ℕ → Stored
 stored_by true bytes =
-    record { file = file_of_body (head_of (drop 1 bytes)) (drop 36 bytes); origin = Some (origin_of (drop 12 bytes)) }
+    record { file = file_of_body (head_of (drop 1 bytes)) (drop 36 bytes); origin = Some
+        (origin_of_bytes (drop 12 bytes)) }
 stored_by false bytes = record { file = file_of_body (head_of bytes) (drop 11 bytes); origin = None }
 
 -- by the first byte of the item, an Add or an Old one

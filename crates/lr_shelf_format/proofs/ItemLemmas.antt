@@ -15,7 +15,7 @@ use Rattle.lr_shelf_format.specs.Items.{Begins, HasBody, HasForm, Holds, IsItem,
 use Rattle.lr_shelf_format.specs.Items.{discard_item, old_bytes, add_bytes, discard_bytes, item_bytes, extent_of}
 use Rattle.lr_shelf_format.specs.Items.{head_of_item, stored_checksum, computed_checksum, item_of}
 use Rattle.lr_shelf_format.specs.Record.{file_of_body, IsHead, body_of, bytes_of_head, head_of, head_of_file}
-use Rattle.lr_shelf_format.specs.Record.{origin_bytes, origin_of, with_checksum}
+use Rattle.lr_shelf_format.specs.Record.{origin_bytes, origin_of_bytes, with_checksum}
 use Rattle.lr_shelf_format.specs.declared.item.ItemHead.{ItemHead}
 use Rattle.lr_shelf_format.specs.declared.item.ItemHead.TheVariants.{Old, Add, Discard}
 use Rattle.lr_shelf_format.specs.declared.record.RecordHead.{RecordHead}
@@ -230,8 +230,8 @@ item_of-item (add_item file origin) rest is =
     let body : drop 36 (add_bytes file origin ++ rest) ≡ tail = ap (drop 36) (split_add file origin rest) in
     let files : file_of_body (head_of_file file) (drop 36 (add_bytes file origin ++ rest)) ≡ file =
     ap (file_of_body (head_of_file file)) body ∙ file_of_tail file origin rest is.0 in
-    ap (λ f. add_item f (origin_of (drop 12 (add_bytes file origin ++ rest)))) files
-    ∙ ap (add_item file) (ap origin_of more ∙ origin_of-bytes origin tail is.1)
+    ap (λ f. add_item f (origin_of_bytes (drop 12 (add_bytes file origin ++ rest)))) files
+    ∙ ap (add_item file) (ap origin_of_bytes more ∙ origin_of_bytes-bytes origin tail is.1)
 item_of-item (discard_item number) rest is = refl
 
 -- no item begins as another does
@@ -320,7 +320,7 @@ module _ (bytes : List ℕ) (fit : AreBytes bytes) where
   add_content : (head : RecordHead) → slice_index bytes 0 ≡ 0x80 → IsHead head → head ≡ head_of (drop 1 bytes)
       → HasBody head 36 bytes
       → 0x80 ∷ (bytes_of_head (head_of_file (file_of_body head (drop 36 bytes)))
-      ++ (origin_bytes (origin_of (drop 12 bytes)) ++ body_of (file_of_body head (drop 36 bytes)))) ≡ take
+      ++ (origin_bytes (origin_of_bytes (drop 12 bytes)) ++ body_of (file_of_body head (drop 36 bytes)))) ≡ take
       (length bytes - 2) bytes
   add_content head first is same has =
       let t = 2 * head.packets + head.bytes in
@@ -330,9 +330,9 @@ module _ (bytes : List ℕ) (fit : AreBytes bytes) where
       let size : length bytes - 2 ≡ 1 + (11 + (24 + t)) = omega (arith, has.size) in
       let twelve : drop 11 rest ≡ drop 12 bytes = drop-drop 11 1 bytes in
       let body : drop 24 (drop 12 bytes) ≡ drop 36 bytes = drop-drop 24 12 bytes in
-      let origins : origin_bytes (origin_of (drop 12 bytes)) ≡ take 24 (drop 12 bytes) =
+      let origins : origin_bytes (origin_of_bytes (drop 12 bytes)) ≡ take 24 (drop 12 bytes) =
       origin_back (drop 12 bytes) (AreBytes-drop 12 bytes fit) (omega (arith, length-drop 12 bytes, has.size)) in
-      let tail : origin_bytes (origin_of (drop 12 bytes))
+      let tail : origin_bytes (origin_of_bytes (drop 12 bytes))
       ++ body_of (file_of_body head (drop 36 bytes)) ≡ take (24 + t) (drop 11 rest) =
       ap (λ (l : List ℕ). l ++ body_of (file_of_body head (drop 36 bytes))) origins
       ∙ ap (λ (l : List ℕ). take 24 (drop 12 bytes) ++ l)
@@ -341,7 +341,7 @@ module _ (bytes : List ℕ) (fit : AreBytes bytes) where
       let fields : bytes_of_head (head_of_file (file_of_body head (drop 36 bytes))) ≡ take 11 rest =
       ap bytes_of_head (head_of_file-from head 36 bytes is has ∙ same) ∙ fields_back rest back (omega arith) in
       ap (λ (l : List ℕ). 0x80 ∷
-      (l ++ (origin_bytes (origin_of (drop 12 bytes)) ++ body_of (file_of_body head (drop 36 bytes))))) fields
+      (l ++ (origin_bytes (origin_of_bytes (drop 12 bytes)) ++ body_of (file_of_body head (drop 36 bytes))))) fields
       ∙ ap (λ (l : List ℕ). 0x80 ∷ (take 11 rest ++ l)) tail
       ∙ ap (λ (l : List ℕ). 0x80 ∷ l) (sym (take-add 11 (24 + t) rest))
       ∙ ap (λ n. n ∷ take (11 + (24 + t)) rest) (sym first)
@@ -403,11 +403,11 @@ module _ (bytes : List ℕ) (fit : AreBytes bytes) (right : stored_checksum byte
 
   pub holds_add : (head : RecordHead) (file : File) → Begins bytes (Add head) → HasForm bytes (Add head)
       → file ≡ file_of_body head (drop 36 bytes)
-      → Holds bytes (record { file = file; origin = Some (origin_of (drop 12 bytes)) })
+      → Holds bytes (record { file = file; origin = Some (origin_of_bytes (drop 12 bytes)) })
   unfolding item_of
   holds_add head file begins form same =
-      let items : add_item file (origin_of (drop 12 bytes)) ≡ item_of (Add head) bytes =
-      ap (λ f. add_item f (origin_of (drop 12 bytes))) same in
+      let items : add_item file (origin_of_bytes (drop 12 bytes)) ≡ item_of (Add head) bytes =
+      ap (λ f. add_item f (origin_of_bytes (drop 12 bytes))) same in
       record {
         is_item = subst IsItem (sym items) (IsItem-back bytes fit (Add head) begins form);
         bytes_are =

@@ -6,7 +6,7 @@ use Rattle.std.proofs.lemmas.List.{drop-drop, get_or-drop}
 use Rattle.std.proofs.Math.Seq.{take-add}
 use Rattle.byteorder.specs.Endian.{big_bytes, big_number}
 use Rattle.byteorder.specs.Numbers.{big_number-reads_back}
-use Rattle.lr_shelf_format.specs.Record.{bytes_of_head, head_of, numbers_in, origin_bytes, origin_of}
+use Rattle.lr_shelf_format.specs.Record.{bytes_of_head, head_of, numbers_in, origin_bytes, origin_of_bytes}
 use Rattle.lr_shelf_format.specs.declared.header.TheConstants.{MOST_CAPACITY}
 
 -- ---- lengths of two bytes each
@@ -158,7 +158,8 @@ fields_back bytes fit long =
     ∙ sym all
 
 -- the bytes of the origin that is read
-pub origin_back : (bytes : List ℕ) → AreBytes bytes → 24 ≤ length bytes → origin_bytes (origin_of bytes) ≡ take 24 bytes
+pub origin_back : (bytes : List ℕ) → AreBytes bytes → 24 ≤ length bytes → origin_bytes (origin_of_bytes bytes)
+    ≡ take 24 bytes
 origin_back bytes fit long =
     let first = bytes_of_eight bytes fit (omega arith) in
     let last = bytes_of_eight (drop 8 bytes) (AreBytes-drop 8 bytes fit) (omega (arith, length-drop 8 bytes)) in

@@ -12,7 +12,7 @@ use Rattle.lr_bits.proofs.FileLemmas.{MakeFile-parts, file_of-parts, bytes_of-fi
 use Rattle.lr_bits.proofs.FileLemmas.{length-pieces_of, IsFile-file_of}
 use Rattle.lr_shelf_format.specs.Items.{HasBody, IsOrigin}
 use Rattle.lr_shelf_format.specs.Record.{IsHead, body_of, file_of_body, bytes_of_head, head_of, head_of_file}
-use Rattle.lr_shelf_format.specs.Record.{numbers_in, origin_bytes, origin_of}
+use Rattle.lr_shelf_format.specs.Record.{numbers_in, origin_bytes, origin_of_bytes}
 use Rattle.lr_shelf_format.specs.declared.record.RecordHead.{RecordHead}
 use Rattle.lr_shelf_format.proofs.NumberLemmas.{AreBytes, AreBytes-drop, length-numbers_in, length-pairs}
 use Rattle.lr_shelf_format.proofs.NumberLemmas.{numbers_in-pairs, pairs-numbers_in}
@@ -43,9 +43,9 @@ head_of-fields file more is =
     λ i. record { vc = file.vc; apid = apid i; packets = packets i; bytes = bytes i }
 
 -- the origin reads back
-pub origin_of-bytes : (origin : Origin) (more : List ℕ) → IsOrigin origin
-    → origin_of (origin_bytes origin ++ more) ≡ origin
-origin_of-bytes origin more is =
+pub origin_of_bytes-bytes : (origin : Origin) (more : List ℕ) → IsOrigin origin
+    → origin_of_bytes (origin_bytes origin ++ more) ≡ origin
+origin_of_bytes-bytes origin more is =
     let a = origin.first in
     let b = origin.last in
     let c = origin.corrected in

@@ -5,7 +5,7 @@ use Rattle.std.proofs.lemmas.Bool.{cases_eq}
 use Rattle.std.proofs.lemmas.List.Elements.{All-take}
 use Rattle.lr_shelf_format.specs.Items.{Begins, HasBody, HasForm, Holds, IsFileRecord, computed_checksum}
 use Rattle.lr_shelf_format.specs.Items.{stored_checksum}
-use Rattle.lr_shelf_format.specs.Record.{file_of_body, numbers_in, origin_of}
+use Rattle.lr_shelf_format.specs.Record.{file_of_body, numbers_in, origin_of_bytes}
 use Rattle.lr_shelf_format.specs.Way.{Bad, EntryState, Gone, HasRecord, IsFound, Sound, item_at}
 use Rattle.lr_shelf_format.specs.declared.entry.Entry.{Entry}
 use Rattle.lr_shelf_format.specs.declared.item.ItemHead.{ItemHead}
@@ -65,7 +65,7 @@ stored_there item fit right (Old head) begins form = (
   holds_old item fit right head (file_of_body head (drop 11 item)) begins form refl,
 )
 stored_there item fit right (Add head) begins form = (
-  record { file = file_of_body head (drop 36 item); origin = Some (origin_of (drop 12 item)) },
+  record { file = file_of_body head (drop 36 item); origin = Some (origin_of_bytes (drop 12 item)) },
   holds_add item fit right head (file_of_body head (drop 36 item)) begins form refl,
 )
 stored_there item fit right (Discard number) begins form = absurd form

@@ -40,7 +40,7 @@ use Rattle.lr_shelf_format.specs.Record.{
   head_of_file,
   numbers_in,
   origin_bytes,
-  origin_of,
+  origin_of_bytes,
   with_checksum,
 }
 use Rattle.lr_shelf_format.specs.declared.item.ItemHead.{ItemHead}
@@ -153,7 +153,7 @@ pub record IsFileRecord (bytes : List ℕ) : Type 0 where
 -- the item that a head and the bytes of an item give
 unfoldable pub item_of : ItemHead → List ℕ → Item
 item_of (Old head) bytes = old_item (file_of_body head (drop 11 bytes))
-item_of (Add head) bytes = add_item (file_of_body head (drop 36 bytes)) (origin_of (drop 12 bytes))
+item_of (Add head) bytes = add_item (file_of_body head (drop 36 bytes)) (origin_of_bytes (drop 12 bytes))
 item_of (Discard number) bytes = discard_item number
 
 -- the checksum that stands at the end of an item, and the one of the bytes before it

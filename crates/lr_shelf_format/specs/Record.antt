@@ -62,8 +62,8 @@ head_of bytes = record {
 }
 
 -- the origin that 24 bytes give
-abbrev pub origin_of : List ℕ → Origin
-origin_of bytes = record {
+abbrev pub origin_of_bytes : List ℕ → Origin
+origin_of_bytes bytes = record {
   first = big_number 8 bytes;
   last = big_number 8 (drop 8 bytes);
   corrected =

@@ -26,7 +26,7 @@ ghost use Rattle.lr_shelf_format.specs.Items.{
   computed_checksum,
   stored_checksum,
 };
-ghost use Rattle.lr_shelf_format.specs.Record.{IsHead, file_of_body, numbers_in, origin_of};
+ghost use Rattle.lr_shelf_format.specs.Record.{IsHead, file_of_body, numbers_in, origin_of_bytes};
 ghost use Rattle.lr_shelf_format.specs.declared.record.TheConstants.{ADD_FRONT_BYTES};
 
 use crate::item::{ITEM_BYTES, ItemHead, read_item};
@@ -146,7 +146,7 @@ pub fn stored_in(alloc: Global, bytes: &[u8], head: ItemHead) -> Result<Stored, 
 /// The origin in an Add item.
 fn origin_in(bytes: &[u8]) -> Origin
     requires { ADD_FRONT_BYTES ≤ length bytes.now }
-    ensures { result ≡ origin_of (drop 12 bytes.now) }
+    ensures { result ≡ origin_of_bytes (drop 12 bytes.now) }
 {
     Origin {
         first: BigEndian::read_u64(&bytes[12..]),

@@ -4,7 +4,7 @@
 ghost use Rattle.std.specs.Prelude.{◌≡◌, ◌+◌, ◌<◌};
 ghost use mathlib.Core.Option.{some};
 ghost use lib.ListN.{get_elem?};
-ghost use Rattle.lr_gate.specs.Seats.{IsConductorOf, view_of, put_count, workers_of};
+ghost use Rattle.lr_gate.specs.Seats.{IsConductorOf, view_of, jobs_put, workers_of};
 
 use lr_gate::{Conductor, Gate};
 use lr_gatecore::Work;
@@ -13,7 +13,7 @@ use lr_gatecore::Work;
 pub fn next_result<W: Work>(gate: &Gate<W>, conductor: &mut Conductor<W>, work: &mut W) -> W::Done
     requires mine { IsConductorOf gate.now conductor.old }
     requires alone { workers_of gate.now ≡ 0 }
-    requires left { (view_of conductor.old).taken < put_count (view_of conductor.old) }
+    requires left { (view_of conductor.old).taken < jobs_put (view_of conductor.old) }
     ensures mine { IsConductorOf gate.now conductor.new }
     ensures taken { (view_of conductor.new).taken ≡ (view_of conductor.old).taken + 1 }
     ensures jobs { (view_of conductor.new).jobs ≡ (view_of conductor.old).jobs }

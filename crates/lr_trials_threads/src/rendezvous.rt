@@ -80,9 +80,9 @@ impl<'r, R: Wait> Body<Meeting> for Pair<'r, R> {
     type Answer = (u64, u64);
 
     ghost use Rattle.std.specs.Prelude.{◌≡◌, ℕ};
-    ghost use Rattle.lr_gate.specs.Seats.{view_of, put_count};
+    ghost use Rattle.lr_gate.specs.Seats.{view_of, jobs_put};
 
-    ghost needs = { λ body conductor. put_count (view_of conductor) ≡ 0 };
+    ghost needs = { λ body conductor. jobs_put (view_of conductor) ≡ 0 };
 
     ghost conducts = { λ body before after. Unit {0} };
 

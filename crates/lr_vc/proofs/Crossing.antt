@@ -12,7 +12,7 @@ use Rattle.lr_vc.specs.Frame.{Fields}
 use Rattle.lr_vc.specs.Runs.{Run}
 use Rattle.lr_vc.specs.Packets.{zones_of, pointer_of, place_of, packet_end, is_whole, zones_after, agrees, is_delivered}
 use Rattle.lr_vc.specs.Packets.{ends_in}
-use Rattle.lr_vc.specs.Standing.{is_open}
+use Rattle.lr_vc.specs.Standing.{is_open_packet}
 use Rattle.lr_vc.specs.Steps.{ends_with, goes_on_after}
 use Rattle.lr_vc.proofs.Grown.{AreZones, zones_of-more, length-zones_of, length-more, pointer_of-more, pointer_of-last}
 use Rattle.lr_vc.proofs.Grown.{place_of-more, place_of-last, zones_after-more}
@@ -31,8 +31,8 @@ zones_after_within run s =
 pub late : Run → ℕ → Bool
 late run s = list_all (λ u. eqb (pointer_of run u) NO_PACKET_START) (zones_after run s)
 
-pub is_open_is : (run : Run) (s : ℕ) → is_open run s ≡ (not (is_whole (zones_of run) s) && late run s)
-unfolding is_open late
+pub is_open_is : (run : Run) (s : ℕ) → is_open_packet run s ≡ (not (is_whole (zones_of run) s) && late run s)
+unfolding is_open_packet late
 is_open_is run s = refl
 
 swap_tests : (w l q : Bool) → (w && (l && (q && true))) ≡ (l && (w && q))
@@ -113,17 +113,18 @@ module _ (run : Run) (f : ℕ × Fields) (zones : AreZones run) (long : length f
       (cases_lt (length b + ZONE_BYTES) (packet_end (b ++ f.1.zone) 0))
 
   -- (A) an open packet of the longer run was open, and goes on
-  pub is_open-more : (s : ℕ) → s < ZONE_BYTES * length run →
-      is_open (run ++ f ∷ []) s ≡ (is_open run s && goes_on_after (drop s (zones_of run)) f.1.zone f.1.pointer)
+  pub is_open_packet-more : (s : ℕ) → s < ZONE_BYTES * length run →
+      is_open_packet (run ++ f ∷ []) s ≡ (is_open_packet run s && goes_on_after (drop s (zones_of run))
+          f.1.zone f.1.pointer)
   unfolding goes_on_after
-  is_open-more s h =
+  is_open_packet-more s h =
       let Z = zones_of run in
       let b = drop s Z in
       let more = ltb (length b + ZONE_BYTES) (packet_end (b ++ f.1.zone) 0) in
       let q = eqb f.1.pointer NO_PACKET_START in
-      let left : is_open (run ++ f ∷ []) s ≡ (not (is_whole (Z ++ f.1.zone) s) && (late run s && (q && true))) =
+      let left : is_open_packet (run ++ f ∷ []) s ≡ (not (is_whole (Z ++ f.1.zone) s) && (late run s && (q && true))) =
       is_open_is (run ++ f ∷ []) s ∙ ap₂ (λ zs l. not (is_whole zs s) && l) (zones_of-more run f) (late-more s h) in
-      let right : is_open run s ≡ (not (is_whole Z s) && late run s) = is_open_is run s in
+      let right : is_open_packet run s ≡ (not (is_whole Z s) && late run s) = is_open_is run s in
       ⊎_elim (λ whole.
       let whole_more = is_whole-append Z f.1.zone s whole in
       left ∙ ap (λ w. not w && (late run s && (q && true))) whole_more
@@ -198,7 +199,7 @@ module _ (run : Run) (f : ℕ × Fields) (zones : AreZones run) (long : length f
 
   -- (B) a packet that wasn't all there is delivered where it was open, and ends with the new zone
   is_delivered_new : (s : ℕ) → s < ZONE_BYTES * length run → is_whole (zones_of run) s ≡ false →
-      is_delivered (run ++ f ∷ []) s ≡ (is_open run s && ends_with (drop s (zones_of run)) f.1.zone f.1.pointer)
+      is_delivered (run ++ f ∷ []) s ≡ (is_open_packet run s && ends_with (drop s (zones_of run)) f.1.zone f.1.pointer)
   unfolding is_delivered
   is_delivered_new s h part =
       let grown = run ++ f ∷ [] in
@@ -209,7 +210,7 @@ module _ (run : Run) (f : ℕ × Fields) (zones : AreZones run) (long : length f
       ap (λ us. list_all (agrees grown e) us) (zones_after-more run f s h)
       ∙ list_all-append (agrees grown e) (zones_after run s) (length run ∷ [])
       ∙ ap (λ l. l && (agrees grown e (length run) && true)) (agrees_old s h part) in
-      let open_here : is_open run s ≡ late run s = is_open_is run s ∙ ap (λ w. not w && late run s) part in
+      let open_here : is_open_packet run s ≡ late run s = is_open_is run s ∙ ap (λ w. not w && late run s) part in
       ap (λ zs. is_whole zs s && list_all (agrees grown (packet_end zs s)) (zones_after grown s)) (zones_of-more run f)
       ∙ ap (λ l. is_whole zz s && l) lists
       ∙ swap_tests (is_whole zz s) (late run s) (agrees grown e (length run))
@@ -269,7 +270,7 @@ module _ (run : Run) (f : ℕ × Fields) (zones : AreZones run) (long : length f
   unfolding is_delivered
   not_delivered s part = and_left (is_whole (zones_of run) s) _ part
 
-  not_open : (s : ℕ) → is_whole (zones_of run) s ≡ true → is_open run s ≡ false
+  not_open : (s : ℕ) → is_whole (zones_of run) s ≡ true → is_open_packet run s ≡ false
   not_open s whole = is_open_is run s ∙ ap (λ w. not w && late run s) whole
 
   -- the zone in which a packet ends that wasn't all there is the new one
@@ -312,7 +313,7 @@ module _ (run : Run) (f : ℕ × Fields) (zones : AreZones run) (long : length f
 
   -- in the new frame those end that were open and end with its zone
   pub ends_in_new : ((u : ℕ) → u < length run → place_of run u ≡ f.0 → ⊥) → (s : ℕ) → s < ZONE_BYTES * length run →
-      ends_in (run ++ f ∷ []) f.0 s ≡ (is_open run s && ends_with (drop s (zones_of run)) f.1.zone f.1.pointer)
+      ends_in (run ++ f ∷ []) f.0 s ≡ (is_open_packet run s && ends_with (drop s (zones_of run)) f.1.zone f.1.pointer)
   unfolding ends_in
   ends_in_new apart s h =
       let grown = run ++ f ∷ [] in
@@ -324,7 +325,7 @@ module _ (run : Run) (f : ℕ × Fields) (zones : AreZones run) (long : length f
       let inside : u < length run = omega (arith, zones_long, both.1, packet_end_is Z s) in
       ends_in_whole f.0 s h whole ∙ and_right (is_delivered run s) (eqb (place_of run u) f.0)
       (ne_eqb (place_of run u) f.0 (apart u inside))
-      ∙ sym (and_left (is_open run s) E (not_open s whole)))
+      ∙ sym (and_left (is_open_packet run s) E (not_open s whole)))
       (λ part. ends_in_part f.0 s h part ∙ ap (λ b. is_delivered grown s && b) (eq-eqb f.0 f.0 refl)
       ∙ and-true (is_delivered grown s) ∙ is_delivered_new s h part)
       (cases_Bool (is_whole Z s))
@@ -343,10 +344,11 @@ module _ (run : Run) (f : ℕ × Fields) (zones : AreZones run) (long : length f
       ap (λ zs. is_whole zs (ZONE_BYTES * length run + q)) (zones_of-more run f)
       ∙ is_whole-behind (zones_of run) f.1.zone (ZONE_BYTES * length run) q zones_long
 
-  pub is_open-last : (q : ℕ) → q < ZONE_BYTES → is_open (run ++ f ∷ []) (ZONE_BYTES * length run + q) ≡ not
+  pub is_open_packet-last : (q : ℕ) → q < ZONE_BYTES → is_open_packet (run ++ f ∷ [])
+      (ZONE_BYTES * length run + q) ≡ not
       (is_whole f.1.zone q)
   unfolding late
-  is_open-last q h =
+  is_open_packet-last q h =
       let grown = run ++ f ∷ [] in
       is_open_is grown (ZONE_BYTES * length run + q)
       ∙ ap₂ (λ w us. not w && list_all (λ u. eqb (pointer_of grown u) NO_PACKET_START) us) (whole_last q)

@@ -12,7 +12,7 @@ use Rattle.lr_vc.specs.Frame.{Fields}
 use Rattle.lr_vc.specs.Runs.{Run}
 use Rattle.lr_vc.specs.Packets.{zones_of, place_of, is_whole, starts_from, starts_of, is_delivered, packet_at, ends_in}
 use Rattle.lr_vc.specs.Packets.{packets_ending}
-use Rattle.lr_vc.specs.Standing.{is_open, open_packets}
+use Rattle.lr_vc.specs.Standing.{is_open_packet, open_packets}
 use Rattle.lr_vc.specs.Steps.{ends_with, goes_on_after, completed_packet, continued_packet, starts_after}
 use Rattle.lr_vc.specs.Steps.{packets_inside, starts_unfinished}
 use Rattle.lr_vc.proofs.Grown.{AreZones, zones_of-more, length-zones_of, starts_in_zone-last, starts_of-more}
@@ -130,9 +130,10 @@ module _ (run : Run) (f : ℕ × Fields) (zones : AreZones run) (long : length f
       let rest = λ (s : ℕ). drop s (zones_of run) in
       let F = λ (b : List ℕ). cond (ends_with b z p) (packet_at channel (b ++ z) 0 ∷ []) [] in
       let Q = λ (b : List ℕ). ends_with b z p in
-      let old : map pk (filter E (starts_of run)) ≡ flat_map F (map rest (filter (is_open run) (starts_of run))) =
-      flat_map_open F pk rest E (is_open run) Q (starts_of run)
-      (Each_weaker (λ s. s < n) (λ s. (E s ≡ (is_open run s && Q (rest s))) ×
+      let old : map pk (filter E (starts_of run)) ≡ flat_map F
+          (map rest (filter (is_open_packet run) (starts_of run))) =
+      flat_map_open F pk rest E (is_open_packet run) Q (starts_of run)
+      (Each_weaker (λ s. s < n) (λ s. (E s ≡ (is_open_packet run s && Q (rest s))) ×
       (F (rest s) ≡ cond (Q (rest s)) (pk s ∷ []) []))
       (λ s h. (
         ends_in_new run f zones long apart s h,
@@ -170,7 +171,7 @@ module _ (run : Run) (f : ℕ × Fields) (zones : AreZones run) (long : length f
   unfolding open_packets continued_packet starts_unfinished starts_after firsts
   open_packets-more =
       let grown = run ++ f ∷ [] in
-      let O = is_open grown in
+      let O = is_open_packet grown in
       let pk = λ (s : ℕ). drop s (zones_of grown) in
       let z = f.1.zone in
       let p = f.1.pointer in
@@ -179,11 +180,13 @@ module _ (run : Run) (f : ℕ × Fields) (zones : AreZones run) (long : length f
       let Q = λ (b : List ℕ). goes_on_after b z p in
       let F = λ (b : List ℕ). cond (goes_on_after b z p) ((b ++ z) ∷ []) [] in
       let U = λ (s : ℕ). not (is_whole z s) in
-      let old : map pk (filter O (starts_of run)) ≡ flat_map F (map rest (filter (is_open run) (starts_of run))) =
-      flat_map_open F pk rest O (is_open run) Q (starts_of run)
-      (Each_weaker (λ s. s < n) (λ s. (O s ≡ (is_open run s && Q (rest s))) ×
+      let old : map pk (filter O (starts_of run)) ≡ flat_map F
+          (map rest (filter (is_open_packet run) (starts_of run))) =
+      flat_map_open F pk rest O (is_open_packet run) Q (starts_of run)
+      (Each_weaker (λ s. s < n) (λ s. (O s ≡ (is_open_packet run s && Q (rest s))) ×
       (F (rest s) ≡ cond (Q (rest s)) (pk s ∷ []) []))
-      (λ s h. (is_open-more run f zones long s h, ap (λ k. cond (Q (rest s)) (k ∷ []) []) (sym (drop_grown s h))))
+      (λ s h. (is_open_packet-more run f zones long s h, ap (λ k. cond (Q (rest s)) (k ∷ []) [])
+          (sym (drop_grown s h))))
       (starts_of run) (starts_of_within run)) in
       let behind : (q : ℕ) → drop (n + q) (zones_of grown) ≡ drop q z =
       λ q. ap (λ zs. drop (n + q) zs) (zones_of-more run f) ∙ sym (drop-drop q n (zones_of run ++ z))
@@ -191,7 +194,7 @@ module _ (run : Run) (f : ℕ × Fields) (zones : AreZones run) (long : length f
       let new : map pk (filter O (map (λ s. n + s) firsts)) ≡ map (λ s. drop s z) (filter U firsts) =
       map_filter_map pk (λ s. drop s z) O U n firsts
       (Each_weaker (λ q. q < ZONE_BYTES) (λ q. (O (n + q) ≡ U q) × (pk (n + q) ≡ drop q z))
-      (λ q h. (is_open-last run f zones long q h, behind q)) firsts firsts_within) in
+      (λ q h. (is_open_packet-last run f zones long q h, behind q)) firsts firsts_within) in
       let cases : map (λ s. drop s z) (filter U firsts) ≡
       cond (ltb p ZONE_BYTES) (map (λ s. drop s z) (filter U (starts_from z ZONE_BYTES ZONE_BYTES p))) [] =
       elim (ltb p ZONE_BYTES) as (λ b. map (λ s. drop s z)

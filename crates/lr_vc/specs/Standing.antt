@@ -51,14 +51,14 @@ last_run (run ∷ []) = run
 last_run (run ∷ next ∷ runs) = last_run (next ∷ runs)
 
 -- whether the packet at a start isn't all there yet, and no packet starts in a later zone
-unfoldable pub is_open : Run → ℕ → Bool
-is_open run start =
+unfoldable pub is_open_packet : Run → ℕ → Bool
+is_open_packet run start =
     not (is_whole (zones_of run) start) && list_all (λ zone. pointer_of run zone == NO_PACKET_START)
     (zones_after run start)
 
 -- the open packets of a run, each as its bytes so far
 unfoldable pub open_packets : Run → List (List ℕ)
-open_packets run = map (λ start. drop start (zones_of run)) (filter (is_open run) (starts_of run))
+open_packets run = map (λ start. drop start (zones_of run)) (filter (is_open_packet run) (starts_of run))
 
 -- What is kept stands for this history of frames: it is, of each channel, the counter of the last frame and the open
 -- packet of the last run. So a run has at most one open packet.

@@ -1,6 +1,6 @@
 use Rattle.std.proofs.Common.{◌≡◌, rules}
 use Rattle.lr_cmd_receive.specs.Noted.{noted_with}
-use Rattle.lr_cmd_receive.specs.Shelved.{AddsFiles, one_more}
+use Rattle.lr_cmd_receive.specs.Shelved.{AddsNotedFiles, one_more}
 use Rattle.std.proofs.lemmas.Result.{err_from_is_err_and}
 use Rattle.lr_cmd_receive.proofs.Pieces.{gained, gained_some, gained_none}
 use Rattle.lr_causes.specs.Outside.{outlets, outlets_of}
@@ -17,7 +17,7 @@ pub returns-clause-gained : goal.returns-clause-gained
 returns-clause-gained g c mend outcomes stands =
     let files : c.deref.result.now ≡ c.take_files.new.ended.files.items = search rules in
     let fillers : c.deref-2.result.now ≡ c.take_files.new.ended.fillers.items = search rules in
-    let adds : AddsFiles (one_more mend outcomes c.args.outcome.now)
+    let adds : AddsNotedFiles (one_more mend outcomes c.args.outcome.now)
     (noted_with c.deref.result.now c.deref-2.result.now) =
     rw (files, fillers) (c.in_ok-take_files.ensures.adds mend outcomes stands) in
     gained (outlets_of g.D.Disk g.O.Sink) mend outcomes c.args.outcome.now
@@ -29,7 +29,7 @@ pub returns-clause-stopped : goal.returns-clause-stopped
 returns-clause-stopped g c mend outcomes stands whole =
     let files : c.deref.result.now ≡ c.take_files.new.ended.files.items = search rules in
     let fillers : c.deref-2.result.now ≡ c.take_files.new.ended.fillers.items = search rules in
-    let adds : AddsFiles (one_more mend outcomes c.args.outcome.now)
+    let adds : AddsNotedFiles (one_more mend outcomes c.args.outcome.now)
     (noted_with c.deref.result.now c.deref-2.result.now) =
     rw (files, fillers) (c.in_ok-take_files.ensures.adds mend outcomes stands) in
     gained_some (outlets_of g.D.Disk g.O.Sink) mend outcomes c.args.outcome.now

@@ -1,7 +1,7 @@
 use Rattle.std.proofs.Common.{refl, subst, arith}
 use Rattle.lr_causes.specs.declared.cause.Cause.{Cause}
 use Rattle.lr_cmd_render.specs.Contents.{ReadStops}
-use Rattle.lr_cmd_render.specs.Leading.{way_in}
+use Rattle.lr_cmd_render.specs.Leading.{way_of_source}
 use Rattle.lr_cmd_render.proofs.ReadingOn.{reads_refusal, takes_goes, takes_one}
 use Rattle.lr_cmd_render.proofs.Stopping.{read_stops}
 use Rattle.lr_cmd_render.proofs.UnderWay.{count_is}
@@ -27,7 +27,8 @@ returns-in-Refused-clause-reads g c = λ led goes.
     let before = c.args.self.now in
     let refused =
     subst
-    (λ (cause : Cause). ReadStops g.D.Disk (way_in before) before.next cause before.disk.now c.read_content.new.disk)
+    (λ (cause : Cause). ReadStops g.D.Disk (way_of_source before) before.next cause before.disk.now
+        c.read_content.new.disk)
     c.in-Refused.is e.stops in
     reads_refusal g.D.Disk g.O.Sink g.met.D.Disk.reads_on goes _ refl refl refl e.reads refused.0 refl refl refl refl
     (omega (arith, c.requires.more, count_is g.D.Disk g.O.Sink goes)) c.in-Refused.refusal refl refused.1

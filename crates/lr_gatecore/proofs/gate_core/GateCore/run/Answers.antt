@@ -1,7 +1,7 @@
 use Rattle.std.proofs.Common.{◌≡◌, ◌≤◌, ◌∙◌, Bool, true, false, cond, sym, refl, subst, arith}
 use Rattle.std.proofs.lemmas.List.{take_more}
 use mir.Val.{bool_byte}
-use Rattle.lr_gatecore.specs.Machine.{Leads}
+use Rattle.lr_gatecore.specs.Machine.{EventsLead}
 use Rattle.lr_gatecore.proofs.Steps.{leads_end, put_more}
 use Rattle.lr_gatecore.proofs.gate_core.GateCore.run.Goals as goal
 
@@ -20,7 +20,7 @@ loop-event-preserved c = let kept = c.loop-event.invariant in let size = c.step.
       omega (arith, b.0, b.1, c.from-moved.ensures, kept.2),
       (
         more.0,
-        subst (λ es. Leads c.args.self.now.size c.args.self.now.machine es more.0
+        subst (λ es. EventsLead c.args.self.now.size c.args.self.now.machine es more.0
             c.step.new.self.machine)
             (sym (take_more c.args.events.now c.loop-event.event-index _ c.loop-event-test.true)) more.1,
         omega (arith, b.0, c.from-moved.ensures, kept.3.2, more.2),
