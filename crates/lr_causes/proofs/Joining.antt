@@ -2,6 +2,7 @@
 use Rattle.std.proofs.Common.{◌≡◌, ℕ, List, [], ◌∷◌, ◌++◌, length, refl, sym, ap, ◌∙◌, subst, arith}
 use Rattle.std.proofs.Common.{append-nil, append_assoc, length-append}
 use Rattle.lr_bits.specs.Faults.{Rose}
+use Rattle.lr_bits.proofs.Telling.{tells_both, tells_still}
 use Rattle.lr_io.specs.Pieces.{PutsPart}
 use Rattle.lr_io.specs.declared.sink.Sink.{Ghosts as SinkOf}
 use Rattle.lr_causes.specs.Puts.{Puts, PutFails}
@@ -30,8 +31,7 @@ part_after first second old old' new put got = record {
 module _ {O : Type 0} (out : SinkOf O) where
   pub puts_none : (o : O) → Puts out [] o o
   puts_none o = record {
-    told = λ t. t;
-    untold = λ t. t;
+    tell = tells_still;
     put = λ t. sym (append-nil (out.contents o));
     kept = refl;
   }
@@ -39,9 +39,8 @@ module _ {O : Type 0} (out : SinkOf O) where
   module _ (first second : List ℕ) (o o1 o2 : O) where
     pub puts_both : Puts out first o o1 → Puts out second o1 o2 → Puts out (first ++ second) o o2
     puts_both a b = record {
-      told = λ t. b.told (a.told t);
-      untold = λ t. a.untold (b.untold t);
-      put = λ t. b.put (a.told t) ∙ ap (λ (l : List ℕ). l ++ second) (a.put t)
+      tell = tells_both a.tell b.tell;
+      put = λ t. b.put (a.tell.told t) ∙ ap (λ (l : List ℕ). l ++ second) (a.put t)
           ∙ append_assoc (out.contents o) first second;
       kept = b.kept ∙ a.kept;
     }
@@ -49,18 +48,16 @@ module _ {O : Type 0} (out : SinkOf O) where
     -- the second was cut
     pub fails_after : Puts out first o o1 → PutFails out second o1 o2 → PutFails out (first ++ second) o o2
     fails_after a b = record {
-      told = λ t. b.told (a.told t);
-      untold = λ t. a.untold (b.untold t);
+      tell = tells_both a.tell b.tell;
       part = λ t. part_after first second (out.contents o) (out.contents o1) (out.contents o2) (a.put t)
-          (b.part (a.told t));
+          (b.part (a.tell.told t));
       rose = subst (λ n. Rose n (out.faults o2)) a.kept b.rose;
     }
 
   -- the first was cut
   pub fails_before : (first second : List ℕ) (o o1 : O) → PutFails out first o o1 → PutFails out (first ++ second) o o1
   fails_before first second o o1 a = record {
-    told = a.told;
-    untold = a.untold;
+    tell = a.tell;
     part = λ t. part_before first second (out.contents o) (out.contents o1) (a.part t);
     rose = a.rose;
   }

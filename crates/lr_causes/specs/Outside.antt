@@ -1,5 +1,6 @@
 -- What a call is lent: a source, a disk and `out`, or two of these, and what is said of such things.
 use Rattle.lr_bits.specs.Faults.{Rose}
+use Rattle.lr_bits.specs.Telling.{KeepsTelling}
 use Rattle.lr_disk.specs.declared.disk.Disk.{Ghosts as DiskOf}
 use Rattle.lr_io.specs.declared.sink.Sink.{Ghosts as SinkOf}
 use Rattle.lr_io.specs.declared.source.Source.{Ghosts as SourceOf}
@@ -64,10 +65,8 @@ outlet_counts world w = counts 0 (world.disk.faults w.disk) (world.out.faults w.
 
 -- both tell of themselves what they told
 pub record TellOn {D O : Type 0} (world : OutletsOf D O) (w w' : Outlets D O) : Type 0 where
-  pub told_by_disk : world.disk.tells w.disk → world.disk.tells w'.disk
-  pub untold_by_disk : world.disk.tells w'.disk → world.disk.tells w.disk
-  pub told_by_out : world.out.tells w.out → world.out.tells w'.out
-  pub untold_by_out : world.out.tells w'.out → world.out.tells w.out
+  pub by_disk : KeepsTelling (world.disk.tells w.disk) (world.disk.tells w'.disk)
+  pub by_out : KeepsTelling (world.out.tells w.out) (world.out.tells w'.out)
 
 -- ---- a source and `out`, for a command that has no disk
 

@@ -1,6 +1,7 @@
 -- What a call that puts a text appended of it.
 use Rattle.std.specs.Prelude.{◌≡◌, List, ℕ, ◌++◌}
 use Rattle.lr_bits.specs.Faults.{Rose}
+use Rattle.lr_bits.specs.Telling.{KeepsTelling}
 use Rattle.lr_io.specs.declared.sink.Sink.{Ghosts as SinkOf}
 use Rattle.lr_io.specs.Pieces.{PutsPart}
 use Rattle.lr_causes.specs.declared.cause.Cause.{Cause}
@@ -17,15 +18,13 @@ pub record PutsPrefix (bytes old new : List ℕ) : Type 0 where
 module _ {O : Type 0} (out : SinkOf O) where
   -- the text was put
   pub record Puts (text : List ℕ) (o o' : O) : Type 0 where
-    pub told : out.tells o → out.tells o'
-    pub untold : out.tells o' → out.tells o
+    pub tell : KeepsTelling (out.tells o) (out.tells o')
     pub put : out.tells o → out.contents o' ≡ out.contents o ++ text
     pub kept : out.faults o' ≡ out.faults o
 
   -- a prefix of the text was put that isn't all of it
   pub record PutFails (text : List ℕ) (o o' : O) : Type 0 where
-    pub told : out.tells o → out.tells o'
-    pub untold : out.tells o' → out.tells o
+    pub tell : KeepsTelling (out.tells o) (out.tells o')
     pub part : out.tells o → PutsPart text (out.contents o) (out.contents o')
     pub rose : Rose (out.faults o) (out.faults o')
 

@@ -3,6 +3,7 @@ use Rattle.std.proofs.Common.{◌≡◌, ◌-◌, ◌⊎◌, inl, inr, ⊎_elim,
 use Rattle.std.proofs.Common.{refl, sym, ◌∙◌, ap, subst}
 use Rattle.lr_bits.specs.declared.placed.Placed.{Placed}
 use Rattle.lr_bits.specs.Faults.{Rose}
+use Rattle.lr_bits.specs.Telling.{KeepsTelling}
 use Rattle.lr_conv.specs.declared.line.LineCode.{LineCode}
 use Rattle.lr_io.specs.declared.source.Source.{Ghosts as SourceOf}
 use Rattle.lr_io.specs.declared.sink.Sink.{Ghosts as SinkOf}
@@ -80,7 +81,7 @@ module _ {D : Type 0} (disk : DiskOf D) (shelf : Shelf) (d d1 : D) (ready : IsRe
       let begun = begun_way way (disk.contents d) is in
       record {
         settled = record {
-          told = ready.told t;
+          told = ready.tell.told t;
           kept = record { way = kept_way way t is; working = ready.works };
           on_disk = still_holds disk (OfWay way (disk.contents d)) d d1 (ready.only_read.unwritten t) begun only;
         };
@@ -149,14 +150,14 @@ module _ {D : Type 0} (disk : DiskOf D) (count : ℕ) (files : ℕ → List Plac
   added has = record {
     way = λ way t is. (
       subst (λ (w : Way). IsWay (disk.contents d') (way_with_files (merge files order) w))
-          (kept_way disk shelf d d1 ready way t is) (has.way (ready.told t) (ready.keeps t)),
-      has.durable (ready.told t) (ready.synced t),
+          (kept_way disk shelf d d1 ready way t is) (has.way (ready.tell.told t) (ready.keeps t)),
+      has.durable (ready.tell.told t) (ready.synced t),
     );
     outside = λ way t is.
-        as_found disk shelf d d1 d' ready (merge files order) way t is (has.outside (ready.told t));
+        as_found disk shelf d d1 d' ready (merge files order) way t is (has.outside (ready.tell.told t));
     outside_any_moment = λ way t is only.
         as_found_since disk shelf d d1 d' ready (merge files order) way t is only
-        (has.outside_any_moment (ready.told t) (ready.synced t));
+        (has.outside_any_moment (ready.tell.told t) (ready.synced t));
     onto_shelf = λ capacity items t durable.
         added_on disk shelf d d1 ready d' (merge files order) (OfItems capacity items)
         (on_items disk shelf d d1 ready capacity items t durable) has;
@@ -174,13 +175,13 @@ module _ {D : Type 0} (disk : DiskOf D) (count : ℕ) (files : ℕ → List Plac
     way = λ way t is.
         subst (λ (w : Way). HasEitherWay (way_with_files (merge files order) w) (item_for breaks.placed)
         (disk.contents d')) (kept_way disk shelf d d1 ready way t is)
-        (breaks.appended.way (ready.told t) (ready.keeps t));
+        (breaks.appended.way (ready.tell.told t) (ready.keeps t));
     outside = λ way t is.
         as_found disk shelf d d1 d' ready (merge files order ++ breaks.placed ∷ []) way t is
-        (breaks.appended.outside (ready.told t));
+        (breaks.appended.outside (ready.tell.told t));
     outside_any_moment = λ way t is only.
         as_found_since disk shelf d d1 d' ready (merge files order ++ breaks.placed ∷ []) way t is only
-        (breaks.appended.outside_any_moment (ready.told t) (ready.synced t));
+        (breaks.appended.outside_any_moment (ready.tell.told t) (ready.synced t));
     onto_shelf = λ capacity items t durable.
         broken_on disk shelf d d1 ready d' (merge files order) (OfItems capacity items)
         (on_items disk shelf d d1 ready capacity items t durable) breaks.placed breaks.appended;
@@ -209,8 +210,7 @@ module _ {S D O : Type 0} (source : SourceOf S) (disk : DiskOf D) (out : SinkOf 
         (record { receipts = (receipt_lines base order (length streams)); last = (last_line streams order) }) o o'
     pub counted : CountsTell OutBesides cause (counts (source.faults s) (disk.faults d) (out.faults o))
         (counts (source.faults s') (disk.faults d') (out.faults o'))
-    pub told : out.tells o → out.tells o'
-    pub untold : out.tells o' → out.tells o
+    pub tell : KeepsTelling (out.tells o) (out.tells o')
 
   -- by the counts of the disk and of `out`
   counts_are : (cause : Cause) → IsCaused cause (counts (source.faults s) (disk.faults d) (out.faults o))
@@ -224,12 +224,12 @@ module _ {S D O : Type 0} (source : SourceOf S) (disk : DiskOf D) (out : SinkOf 
       (counts (source.faults s') (disk.faults d') (out.faults o')) named (λ not none. same_source) same_disk same_out
 
   told_some : TellsSome out (receipted streams base order) o o' → out.tells o → out.tells o'
-  told_some (inl puts) = puts.told
-  told_some (inr fails) = fails.told
+  told_some (inl puts) = puts.tell.told
+  told_some (inr fails) = fails.tell.told
 
   untold_some : TellsSome out (receipted streams base order) o o' → out.tells o' → out.tells o
-  untold_some (inl puts) = puts.untold
-  untold_some (inr fails) = fails.untold
+  untold_some (inl puts) = puts.tell.untold
+  untold_some (inr fails) = fails.tell.untold
 
   finish_all : (cause : Cause)
       → HasAppended disk (shelf_on shelf d1) (merge (files_of_downlink line streams) order) d'
@@ -242,8 +242,7 @@ module _ {S D O : Type 0} (source : SourceOf S) (disk : DiskOf D) (out : SinkOf 
     );
     got = tells;
     counted = counts_are Done tt (λ not none. ends.0.count ∙ ready.count) (λ not none. tells.kept);
-    told = tells.told;
-    untold = tells.untold;
+    tell = tells.tell;
   }
   finish_all (Failed Output) ends tells = record {
     leaves = (
@@ -253,8 +252,7 @@ module _ {S D O : Type 0} (source : SourceOf S) (disk : DiskOf D) (out : SinkOf 
     got = tells;
     counted =
         counts_are (Failed Output) tells.rose (λ not none. ends.0.count ∙ ready.count) (λ not none. absurd (not refl));
-    told = tells.told;
-    untold = tells.untold;
+    tell = tells.tell;
   }
   finish_all _ ends tells = absurd tells
 
@@ -268,16 +266,14 @@ module _ {S D O : Type 0} (source : SourceOf S) (disk : DiskOf D) (out : SinkOf 
         got = tells.1;
         counted = counts_are (Failed Disk) (subst (λ n. Rose n (disk.faults d')) ready.count ends.appended.rose)
             (λ not none. absurd (not refl)) (λ not none. absurd (none tt));
-        told = told_some tells.1;
-        untold = untold_some tells.1;
+        tell = record { told = told_some tells.1; untold = untold_some tells.1 };
       })
   finished NoneLeft cause ends tells =
       subst IsFinished (sym tells.0) (record {
         leaves = added disk (length streams) (files_of_downlink line streams) order shelf d d1 d' ready ends;
         got = tells.1;
         counted = counts_are NoMemory tt (λ not none. ends.count ∙ ready.count) (λ not none. absurd (none tt));
-        told = told_some tells.1;
-        untold = untold_some tells.1;
+        tell = record { told = told_some tells.1; untold = untold_some tells.1 };
       })
   finished (Capacity needed capacity) cause ends tells =
       subst IsFinished (sym tells.0) (record {
@@ -290,27 +286,26 @@ module _ {S D O : Type 0} (source : SourceOf S) (disk : DiskOf D) (out : SinkOf 
         got = tells.1;
         counted = counts_are (Refused (IsFull needed capacity)) tt (λ not none. ends.0.count ∙ ready.count)
             (λ not none. absurd (none tt));
-        told = told_some tells.1;
-        untold = untold_some tells.1;
+        tell = record { told = told_some tells.1; untold = untold_some tells.1 };
       })
 
   pub told_since : (result : RunEnd)
       → MergeEnds (merging (length streams) (files_of_downlink line streams) order) disk result (shelf_on shelf d1)
       d' → disk.tells d
       → disk.tells d'
-  told_since All ends t = ends.0.told (ready.told t)
-  told_since DiskFails ends t = ends.appended.told (ready.told t)
-  told_since NoneLeft ends t = ends.told (ready.told t)
-  told_since (Capacity needed capacity) ends t = ends.0.told (ready.told t)
+  told_since All ends t = ends.0.tell.told (ready.tell.told t)
+  told_since DiskFails ends t = ends.appended.tell.told (ready.tell.told t)
+  told_since NoneLeft ends t = ends.tell.told (ready.tell.told t)
+  told_since (Capacity needed capacity) ends t = ends.0.tell.told (ready.tell.told t)
 
   pub untold_since : (result : RunEnd)
       → MergeEnds (merging (length streams) (files_of_downlink line streams) order) disk result (shelf_on shelf d1)
       d' → disk.tells d'
       → disk.tells d
-  untold_since All ends t = ready.untold (ends.0.untold t)
-  untold_since DiskFails ends t = ready.untold (ends.appended.untold t)
-  untold_since NoneLeft ends t = ready.untold (ends.untold t)
-  untold_since (Capacity needed capacity) ends t = ready.untold (ends.0.untold t)
+  untold_since All ends t = ready.tell.untold (ends.0.tell.untold t)
+  untold_since DiskFails ends t = ready.tell.untold (ends.appended.tell.untold t)
+  untold_since NoneLeft ends t = ready.tell.untold (ends.tell.untold t)
+  untold_since (Capacity needed capacity) ends t = ready.tell.untold (ends.0.tell.untold t)
 
   -- the disk failed exactly where the run says so
   pub disk_failed : (result : RunEnd) (cause : Cause) → TellsEnd out result (receipted streams base order) cause o o'
@@ -394,16 +389,17 @@ module _ {S D O : Type 0} (source : SourceOf S) (disk : DiskOf D) (out : SinkOf 
   whole_run = record {
     counted = done_with.counted;
     tell = record {
-      told_by_disk =
-          told_since source disk out line s s' d d1 d' o o' shelf ready streams same_count
-          run.base run.order run.result
-          over.ends;
-      untold_by_disk =
-          untold_since source disk out line s s' d d1 d' o o' shelf ready streams same_count
-          run.base run.order run.result
-          over.ends;
-      told_by_out = done_with.told;
-      untold_by_out = done_with.untold;
+      by_disk = record {
+        told =
+            told_since source disk out line s s' d d1 d' o o' shelf ready streams same_count
+            run.base run.order run.result
+            over.ends;
+        untold =
+            untold_since source disk out line s s' d d1 d' o o' shelf ready streams same_count
+            run.base run.order run.result
+            over.ends;
+      };
+      by_out = done_with.tell;
     };
     bytes = taken.bytes;
     read = taken.taken.read;

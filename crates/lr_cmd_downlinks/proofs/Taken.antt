@@ -2,6 +2,8 @@
 use Rattle.std.proofs.Common.{◌≡◌, ◌≤◌, ℕ, List, [], ◌++◌, length, refl, sym, ap, ◌∙◌, inl, inr, Result, Ok, Err, IfErr}
 use Rattle.std.proofs.Common.{append_assoc, append-nil, ◌<◌, subst}
 use Rattle.lr_bits.specs.declared.refusals.Failed.{Failed}
+use Rattle.lr_bits.specs.Telling.{KeepsTelling}
+use Rattle.lr_bits.proofs.Telling.{tells_still}
 use Rattle.lr_io.specs.declared.source.Source.{Ghosts as SourceOf}
 use Rattle.lr_cmd_downlinks.specs.Taking.{most_taken, TakingWantsMemory}
 use Rattle.lr_reading.specs.Reading.{CameInPieces, HasGiven, IsRead, StopsAsking}
@@ -10,8 +12,7 @@ use Rattle.lr_reading.proofs.Asking.{came_none, came_on, came_once, gave, last_o
 module _ {S : Type 0} (source : SourceOf S) where
   -- these bytes were taken, and the source hasn't failed
   pub record HasTaken (bytes : List ℕ) (s s' : S) : Type 0 where
-    pub told : source.tells s → source.tells s'
-    pub untold : source.tells s' → source.tells s
+    pub tell : KeepsTelling (source.tells s) (source.tells s')
     pub moved : source.tells s → source.left s ≡ bytes ++ source.left s'
     pub count : source.faults s' ≡ source.faults s
     pub asked : StopsAsking source bytes s s'
@@ -19,8 +20,7 @@ module _ {S : Type 0} (source : SourceOf S) where
 
   pub took_none : (s : S) → HasTaken [] s s
   took_none s = record {
-    told = λ t. t;
-    untold = λ t. t;
+    tell = tells_still;
     moved = λ t. refl;
     count = refl;
     asked = inl (refl, refl);
@@ -30,7 +30,7 @@ module _ {S : Type 0} (source : SourceOf S) where
   pub is_read : (bytes : List ℕ) (s s' : S) → HasTaken bytes s s' → length bytes ≤ most_taken
       → IsRead source most_taken bytes s s'
   is_read bytes s s' so few =
-      record { told = so.told; untold = so.untold; moved = so.moved; few = few; asked = so.asked }
+      record { tell = so.tell; moved = so.moved; few = few; asked = so.asked }
 
   module _ (bytes piece : List ℕ) (s s1 s2 : S) (so : HasTaken bytes s s1) (told : source.tells s1 → source.tells s2)
       (untold : source.tells s2 → source.tells s1) (answer : Result ℕ Failed) (asked : source.asked s1 answer s2)
@@ -39,9 +39,8 @@ module _ {S : Type 0} (source : SourceOf S) where
     pub took_more : (source.tells s1 → source.left s1 ≡ piece ++ source.left s2)
         → source.faults s2 ≡ source.faults s1 → 0 < length piece → HasTaken (bytes ++ piece) s s2
     took_more moved same some = record {
-      told = λ t. told (so.told t);
-      untold = λ t. so.untold (untold t);
-      moved = λ t. so.moved t ∙ ap (λ (l : List ℕ). bytes ++ l) (moved (so.told t))
+      tell = record { told = λ t. told (so.tell.told t); untold = λ t. so.tell.untold (untold t) };
+      moved = λ t. so.moved t ∙ ap (λ (l : List ℕ). bytes ++ l) (moved (so.tell.told t))
           ∙ sym (append_assoc bytes piece (source.left s2));
       count = same ∙ so.count;
       asked = inr (last_one source (λ given pieces. Unit {0}) bytes piece (bytes ++ piece) s s1 s2 so.moved so.came
@@ -54,9 +53,8 @@ module _ {S : Type 0} (source : SourceOf S) where
     pub took_last : piece ≡ [] → (source.tells s1 → source.left s2 ≡ source.left s1) → length bytes ≤ most_taken
         → IsRead source most_taken bytes s s2
     took_last empty same few = record {
-      told = λ t. told (so.told t);
-      untold = λ t. so.untold (untold t);
-      moved = λ t. so.moved t ∙ ap (λ (l : List ℕ). bytes ++ l) (sym (same (so.told t)));
+      tell = record { told = λ t. told (so.tell.told t); untold = λ t. so.tell.untold (untold t) };
+      moved = λ t. so.moved t ∙ ap (λ (l : List ℕ). bytes ++ l) (sym (same (so.tell.told t)));
       few = few;
       asked = inr (last_one source (λ given pieces. Unit {0}) bytes [] bytes s s1 s2 so.moved so.came
           (gave source s1 s2 answer [] asked (subst (HasGiven answer) empty given)) (sym (append-nil bytes)) tt);

@@ -1,6 +1,7 @@
 -- What a run comes to where no bundle was taken, or no shelf loaded.
 use Rattle.std.proofs.Common.{◌≡◌, ◌<◌, ◌⊎◌, inl, inr, ℕ, List, [], length}
 use Rattle.std.proofs.Common.{refl, sym, ap, subst, arith, Result, Err, IfErr, MatchResult}
+use Rattle.lr_bits.proofs.Telling.{tells_still}
 use Rattle.lr_conv.specs.declared.line.LineCode.{LineCode}
 use Rattle.lr_io.specs.declared.source.Source.{Ghosts as SourceOf}
 use Rattle.lr_io.specs.declared.sink.Sink.{Ghosts as SinkOf}
@@ -64,10 +65,8 @@ module _ {S D O : Type 0} (source : SourceOf S) (disk : DiskOf D) (out : SinkOf 
     stopped cause counted ends flaws whole = record {
       counted = counted;
       tell = record {
-        told_by_disk = ready.told;
-        untold_by_disk = ready.untold;
-        told_by_out = λ t. t;
-        untold_by_out = λ t. t;
+        by_disk = ready.tell;
+        by_out = tells_still;
       };
       bytes = bytes;
       read = read;
@@ -135,13 +134,11 @@ module _ {S D O : Type 0} (source : SourceOf S) (disk : DiskOf D) (out : SinkOf 
   before_all cause counted ends places before whole = record {
     counted = counted;
     tell = record {
-      told_by_disk = loads.calls.told;
-      untold_by_disk = loads.calls.untold;
-      told_by_out = λ t. t;
-      untold_by_out = λ t. t;
+      by_disk = loads.calls.tell;
+      by_out = tells_still;
     };
     bytes = [];
-    read = record { told = λ t. t; untold = λ t. t; moved = λ t. refl; few = omega arith; asked = inl (refl, refl) };
+    read = record { tell = tells_still; moved = λ t. refl; few = omega arith; asked = inl (refl, refl) };
     ends = ends;
     broken = λ at t no. (places at t no, untouched);
     flawed = λ flaw all has. inr before;

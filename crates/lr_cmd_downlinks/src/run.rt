@@ -13,7 +13,7 @@ use lr_conv::LineCode;
 use lr_disk::Disk;
 use lr_downlinks::{Bundle, Run, RunEnd, run_downlinks};
 use lr_io::{Sink, Source};
-use lr_refusals::shelf_cause;
+use lr_refusals::shelf_answer;
 use lr_shelf::Shelf;
 use std::alloc::Global;
 use std::sync::Wait;
@@ -72,9 +72,9 @@ pub fn downlinks<R: Threads + Wait + Sync, S: Source, D: Disk + Send, O: Sink>(
     ensures { DownlinksRun (world_of S.Source D.Disk O.Sink) line result
         (outside source.old disk.old out.old) (outside source.new disk.new out.new) }
 {
-    let shelf = match Shelf::load(alloc, disk) {
+    let shelf = match shelf_answer(Shelf::load(alloc, disk)) {
         Ok(shelf) => shelf,
-        Err(error) => return shelf_cause(error),
+        Err(cause) => return cause,
     };
     let bundle = match take_bundle(alloc, source) {
         Ok(bundle) => bundle,

@@ -6,6 +6,7 @@ use Rattle.std.proofs.lemmas.Bool.{cases_lt}
 use Rattle.std.proofs.lemmas.List.{take-append-drop, take-append-le}
 use Rattle.std.proofs.lemmas.Result.{err_from_is_err_and}
 use Rattle.lr_bits.specs.Faults.{Rose}
+use Rattle.lr_bits.proofs.Telling.{tells_both, tells_still}
 use Rattle.lr_io.specs.declared.source.Source.{Ghosts as SourceOf}
 use Rattle.lr_io.specs.declared.sink.Sink.{Ghosts as SinkOf}
 use Rattle.lr_forms.specs.declared.forms.Stop.{Stop}
@@ -39,10 +40,9 @@ err_so P r is holds = let found = err_from_is_err_and r is in rw (found.1, found
 pub lines_stop : {O : Type 0} (out : SinkOf O) (front line : List ℕ) (o p o' : O) → Puts out front o p
     → (cause : Cause) → PutStops out line cause p o' → LinesStop out (front ++ line) cause o o'
 lines_stop out front line o p o' put (Failed Output) stop = record {
-  told = λ tells. stop.told (put.told tells);
-  untold = λ tells. put.untold (stop.untold tells);
+  tell = tells_both put.tell stop.tell;
   part = λ tells.
-      let cut = stop.part (put.told tells) in
+      let cut = stop.part (put.tell.told tells) in
       record {
         part = front ++ cut.part;
         rest = cut.rest;
@@ -53,8 +53,10 @@ lines_stop out front line o p o' put (Failed Output) stop = record {
   rose = subst (λ k. Rose k (out.faults o')) put.kept stop.rose;
 }
 lines_stop out front line o p o' put NoMemory stop = record {
-  told = λ tells. subst (λ x. out.tells x) (sym stop) (put.told tells);
-  untold = λ tells. put.untold (subst (λ x. out.tells x) stop tells);
+  tell = record {
+    told = λ tells. subst (λ x. out.tells x) (sym stop) (put.tell.told tells);
+    untold = λ tells. put.tell.untold (subst (λ x. out.tells x) stop tells);
+  };
   front = λ tells. record { front = front; rest = line; split = refl; put = ap out.contents stop ∙ put.put tells };
   kept = ap out.faults stop ∙ put.kept;
 }
@@ -76,8 +78,7 @@ module _ {O : Type 0} (out : SinkOf O) (text : List Arrival → List ℕ) (arriv
 
   pub none_stopped : (o' : O) → Puts out (text arrivals) o o' → PutsSome out (text arrivals) o o'
   none_stopped o' put = record {
-    told = put.told;
-    untold = put.untold;
+    tell = put.tell;
     front = λ tells. record {
       front = text arrivals;
       rest = [];
@@ -100,7 +101,7 @@ module _ {O : Type 0} (out : SinkOf O) (text : List Arrival → List ℕ) (arriv
     where
       got : (cause : Cause) → PutStops out line cause p o' → GotFirst out (text arrivals) o o'
       got (Failed Output) stop = λ tells.
-          let cut = stop.part (put.told tells) in (
+          let cut = stop.part (put.tell.told tells) in (
             cut.part,
             cut.put ∙ ap (λ (l : List ℕ). l ++ cut.part) (put.put tells)
                 ∙ append_assoc (out.contents o) (text arrivals) cut.part,
@@ -254,9 +255,8 @@ module _ {S O : Type 0} (source : SourceOf S) (out : SinkOf O) (printed : Printe
       → Prints (pipe_of source out) printed NoMemory (pipe s o) (pipe s o)
   none_read none s o = record {
     bytes = [];
-    read = record { told = λ t. t; untold = λ t. t; moved = λ t. refl; few = omega arith; asked = inl (refl, refl) };
-    told = λ t. t;
-    untold = λ t. t;
+    read = record { tell = tells_still; moved = λ t. refl; few = omega arith; asked = inl (refl, refl) };
+    tell = tells_still;
     front = λ t. record {
       front = [];
       rest = printed.lines [];
@@ -276,8 +276,7 @@ module _ {S O : Type 0} (source : SourceOf S) (out : SinkOf O) (printed : Printe
   lines_stopped bytes front later s s' o o' read all keeps_up (Failed Output) stop = inl (record {
     bytes = bytes;
     read = read;
-    told = stop.told;
-    untold = stop.untold;
+    tell = stop.tell;
     part = λ tells.
         let cut = stop.part tells in
         record {
@@ -294,8 +293,7 @@ module _ {S O : Type 0} (source : SourceOf S) (out : SinkOf O) (printed : Printe
   lines_stopped bytes front later s s' o o' read all keeps_up NoMemory stop = record {
     bytes = bytes;
     read = read;
-    told = stop.told;
-    untold = stop.untold;
+    tell = stop.tell;
     front = λ tells.
         let some = stop.front tells in
         record {
@@ -319,8 +317,10 @@ module _ {S O : Type 0} (source : SourceOf S) (out : SinkOf O) (printed : Printe
       bytes = bytes;
       read = ends.read;
       reason = ends.reason;
-      told = (puts_both out _ _ _ _ _ put more).told;
-      untold = (puts_both out _ _ _ _ _ put more).untold;
+      tell = record {
+        told = (puts_both out _ _ _ _ _ put more).tell.told;
+        untold = (puts_both out _ _ _ _ _ put more).tell.untold;
+      };
       put = λ tells. (puts_both out _ _ _ _ _ put more).put tells
           ∙ ap (λ l. out.contents o ++ (printed.lines bytes ++ l)) (sym is);
       out_count = more.kept ∙ put.kept;
@@ -335,10 +335,9 @@ module _ {S O : Type 0} (source : SourceOf S) (out : SinkOf O) (printed : Printe
       stop = totals.stop;
       read = ends.read;
       reason = ends.reason;
-      told = λ tells. failed.told (put.told tells);
-      untold = λ tells. put.untold (failed.untold tells);
+      tell = tells_both put.tell failed.tell;
       part = λ tells.
-          let cut = failed.part (put.told tells) in
+          let cut = failed.part (put.tell.told tells) in
           record {
             part = cut.part;
             rest = cut.rest;
@@ -351,8 +350,10 @@ module _ {S O : Type 0} (source : SourceOf S) (out : SinkOf O) (printed : Printe
     last_stopped come o' NoMemory same = record {
       bytes = bytes;
       read = ends.read;
-      told = λ tells. subst (λ x. out.tells x) (sym same) (put.told tells);
-      untold = λ tells. put.untold (subst (λ x. out.tells x) same tells);
+      tell = record {
+        told = λ tells. subst (λ x. out.tells x) (sym same) (put.tell.told tells);
+        untold = λ tells. put.tell.untold (subst (λ x. out.tells x) same tells);
+      };
       front = λ tells. record {
         front = printed.lines bytes;
         rest = [];
@@ -399,8 +400,7 @@ module _ {S O : Type 0} (world : PipeOf S O) (printed : Printed) (loose : Leeway
     bytes = all.bytes;
     read = all.read;
     reason = all.reason;
-    told = all.told;
-    untold = all.untold;
+    tell = all.tell;
     put = all.put;
     out_count = all.out_count;
   }
@@ -412,8 +412,7 @@ module _ {S O : Type 0} (world : PipeOf S O) (printed : Printed) (loose : Leeway
   prints_loosely (Failed Output) (inl cut) = inl (record {
     bytes = cut.bytes;
     read = cut.read;
-    told = cut.told;
-    untold = cut.untold;
+    tell = cut.tell;
     part = cut.part;
     keeps_up = more_put_off cut.bytes cut.keeps_up;
     rose = cut.rose;
@@ -423,16 +422,14 @@ module _ {S O : Type 0} (world : PipeOf S O) (printed : Printed) (loose : Leeway
     stop = cut.stop;
     read = cut.read;
     reason = cut.reason;
-    told = cut.told;
-    untold = cut.untold;
+    tell = cut.tell;
     part = cut.part;
     rose = cut.rose;
   })
   prints_loosely NoMemory stops = record {
     bytes = stops.bytes;
     read = stops.read;
-    told = stops.told;
-    untold = stops.untold;
+    tell = stops.tell;
     front = stops.front;
     keeps_up = more_put_off stops.bytes stops.keeps_up;
     out_count = stops.out_count;

@@ -1,6 +1,7 @@
 -- What a command that prints lines of the bytes read does to the source and to `out`, for each cause.
 use Rattle.std.specs.Prelude.{◌≡◌, ◌⊎◌, ◌+◌, ℕ, List, ◌++◌}
 use Rattle.lr_bits.specs.Faults.{Rose}
+use Rattle.lr_bits.specs.Telling.{KeepsTelling}
 use Rattle.lr_io.specs.Pieces.{PutsPart}
 use Rattle.lr_forms.specs.declared.forms.Input.{Input}
 use Rattle.lr_forms.specs.declared.forms.Stop.{Stop}
@@ -41,8 +42,7 @@ module _ {S O : Type 0} (world : PipeOf S O) (printed : Printed) where
     pub bytes : List ℕ
     pub read : IsRead world.source printed.limit bytes w.source w'.source
     pub reason : EndsFor world.source stop (within printed.limit bytes) w.source w'.source
-    pub told : world.out.tells w.out → world.out.tells w'.out
-    pub untold : world.out.tells w'.out → world.out.tells w.out
+    pub tell : KeepsTelling (world.out.tells w.out) (world.out.tells w'.out)
     pub put : world.out.tells w.out
         → world.out.contents w'.out ≡ world.out.contents w.out ++ (printed.lines bytes ++ printed.last bytes stop)
     pub out_count : world.out.faults w'.out ≡ world.out.faults w.out
@@ -61,8 +61,7 @@ module _ {S O : Type 0} (world : PipeOf S O) (printed : Printed) where
   pub record CutInLines (w w' : Pipe S O) : Type 0 where
     pub bytes : List ℕ
     pub read : IsRead world.source printed.limit bytes w.source w'.source
-    pub told : world.out.tells w.out → world.out.tells w'.out
-    pub untold : world.out.tells w'.out → world.out.tells w.out
+    pub tell : KeepsTelling (world.out.tells w.out) (world.out.tells w'.out)
     pub part : world.out.tells w.out
         → PutsPart (printed.lines bytes) (world.out.contents w.out) (world.out.contents w'.out)
     pub keeps_up : PutsNoLineOff bytes w w'
@@ -74,8 +73,7 @@ module _ {S O : Type 0} (world : PipeOf S O) (printed : Printed) where
     pub stop : Stop
     pub read : IsRead world.source printed.limit bytes w.source w'.source
     pub reason : EndsFor world.source stop (within printed.limit bytes) w.source w'.source
-    pub told : world.out.tells w.out → world.out.tells w'.out
-    pub untold : world.out.tells w'.out → world.out.tells w.out
+    pub tell : KeepsTelling (world.out.tells w.out) (world.out.tells w'.out)
     pub part : world.out.tells w.out
         → PutsPart (printed.last bytes stop) (world.out.contents w.out ++ printed.lines bytes)
         (world.out.contents w'.out)
@@ -85,8 +83,7 @@ module _ {S O : Type 0} (world : PipeOf S O) (printed : Printed) where
   pub record StopsForMemory (w w' : Pipe S O) : Type 0 where
     pub bytes : List ℕ
     pub read : IsRead world.source printed.limit bytes w.source w'.source
-    pub told : world.out.tells w.out → world.out.tells w'.out
-    pub untold : world.out.tells w'.out → world.out.tells w.out
+    pub tell : KeepsTelling (world.out.tells w.out) (world.out.tells w'.out)
     pub front : world.out.tells w.out
         → PutsPrefix (printed.lines bytes) (world.out.contents w.out) (world.out.contents w'.out)
     pub keeps_up : PutsNoLineOff bytes w w'

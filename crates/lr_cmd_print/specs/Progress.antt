@@ -1,5 +1,6 @@
 -- How far a call has come that prints lines. No clause of a public call cites this.
 use Rattle.std.specs.Prelude.{◌≡◌, ◌≤◌, List, ℕ, ◌++◌, length}
+use Rattle.lr_bits.specs.Telling.{KeepsTelling}
 use Rattle.lr_io.specs.declared.sink.Sink.{Ghosts as SinkOf}
 use Rattle.lr_causes.specs.declared.cause.Cause.{Cause}
 use Rattle.lr_causes.specs.declared.cause.Cause.TheVariants.{Failed, NoMemory}
@@ -32,8 +33,7 @@ module _ {O : Type 0} (out : SinkOf O) where
 
   -- a prefix of the text was put
   pub record PutsSome (text : List ℕ) (o o' : O) : Type 0 where
-    pub told : out.tells o → out.tells o'
-    pub untold : out.tells o' → out.tells o
+    pub tell : KeepsTelling (out.tells o) (out.tells o')
     pub front : out.tells o → PutsPrefix text (out.contents o) (out.contents o')
     pub kept : out.faults o' ≡ out.faults o
 

@@ -2,6 +2,7 @@
 use Rattle.std.proofs.Common.{◌≡◌, ◌⊎◌, inl, inr, ℕ, List, [], ◌∷◌, ◌++◌, refl, sym, ◌∙◌, ap, subst, arith}
 use Rattle.std.proofs.Common.{Result, Err, MatchResult}
 use Rattle.lr_bits.specs.declared.placed.Placed.{Placed}
+use Rattle.lr_bits.proofs.Telling.{tells_still}
 use Rattle.lr_io.specs.declared.source.Source.{Ghosts as SourceOf}
 use Rattle.lr_disk.specs.declared.disk.Disk.{Ghosts as DiskOf}
 use Rattle.lr_disk.specs.Pending.{NothingPending}
@@ -183,12 +184,10 @@ module _ {S D O : Type 0} (world : World S D O)
     causes = tt;
     first = none_failed;
     bytes = [];
-    read = record { told = λ t. t; untold = λ t. t; moved = λ t. refl; few = omega arith; asked = inl (refl, refl) };
+    read = record { tell = tells_still; moved = λ t. refl; few = omega arith; asked = inl (refl, refl) };
     tell = record {
-      told_by_disk = λ t. t;
-      untold_by_disk = λ t. t;
-      told_by_out = λ t. t;
-      untold_by_out = λ t. t;
+      by_disk = tells_still;
+      by_out = tells_still;
     };
     onto = record {
       shelf = λ capacity items told durable.

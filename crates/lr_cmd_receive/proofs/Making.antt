@@ -8,6 +8,7 @@ use Rattle.lr_make.specs.Stream.{symbol_stream}
 use Rattle.lr_make.specs.Symbols.{symbols_at, bytes_of_symbols}
 use Rattle.lr_make.proofs.Sending.{symbol_stream-more}
 use Rattle.lr_bits.specs.Faults.{Rose}
+use Rattle.lr_bits.proofs.Telling.{tells_both, tells_still}
 use Rattle.lr_io.specs.declared.sink.Sink.{Ghosts as SinkOf}
 use Rattle.lr_causes.specs.declared.cause.Cause.{Cause}
 use Rattle.lr_causes.specs.declared.cause.Cause.TheVariants.{Done, Failed}
@@ -37,8 +38,7 @@ module _ (text item : ℕ → List ℕ) (grows : (n : ℕ) → text (n + 1) ≡ 
   module _ {O : Type 0} (out : SinkOf O) where
     pub put_none : text 0 ≡ [] → (o : O) → Puts out (text 0) o o
     put_none none o = record {
-      told = λ t. t;
-      untold = λ t. t;
+      tell = tells_still;
       put =
           λ t. sym (ap (λ l. out.contents o ++ l) none ∙ append-nil (out.contents o));
       kept = refl;
@@ -59,10 +59,9 @@ module _ (text item : ℕ → List ℕ) (grows : (n : ℕ) → text (n + 1) ≡ 
         ap text (sym there) ∙ all.1 ∙ ap (λ (l : List ℕ). l ++ all.0) (grows n
         ∙ ap (λ (l : List ℕ). text n ++ l) (sym is)) ∙ append_assoc (text n) bytes all.0 in
         record {
-          told = λ tells. fails.told (before.told tells);
-          untold = λ tells. before.untold (fails.untold tells);
+          tell = tells_both before.tell fails.tell;
           part = λ tells.
-              let cut = fails.part (before.told tells) in
+              let cut = fails.part (before.tell.told tells) in
               record {
                 part = text n ++ cut.part;
                 rest = cut.rest ++ all.0;
@@ -90,10 +89,9 @@ module _ {O : Type 0} (out : SinkOf O) (text : List ℕ) (o o' : O) where
       → OnErr r (PutFails out text o o') → IfErr r (λ c. c ≡ Failed Output)
       → OnOk r (cause ≡ Done) → IfErr r (λ c. cause ≡ c) → MakeEnds out text cause o o'
   make_ends (Ok u) cause put failed only done stopped =
-      subst (λ (c : Cause). MakeEnds out text c o o') (sym done) (put.put, put.kept, put.told, put.untold)
+      subst (λ (c : Cause). MakeEnds out text c o o') (sym done) put
   make_ends (Err c) cause put failed only done stopped =
-      subst (λ (x : Cause). MakeEnds out text x o o') (sym (stopped ∙ only))
-      (failed.part, failed.told, failed.untold)
+      subst (λ (x : Cause). MakeEnds out text x o o') (sym (stopped ∙ only)) failed
 
   pub make_caused : (r : Result (Unit {0}) Cause) (cause : Cause) → OnErr r (PutFails out text o o')
       → IfErr r (λ c. c ≡ Failed Output)

@@ -7,6 +7,7 @@ use Rattle.std.specs.Prelude.{slice_get}
 use Rattle.std.proofs.lemmas.List.{drop_all, take_more, take-append-drop}
 use Rattle.lr_bits.specs.declared.outcome.Outcome.{Outcome}
 use Rattle.lr_bits.specs.declared.placed.Placed.{Placed}
+use Rattle.lr_bits.proofs.Telling.{tells_both, tells_still}
 use Rattle.lr_io.specs.Pieces.{PutsPart}
 use Rattle.lr_shelf.specs.Prefixes.{end_with}
 use Rattle.lr_shelf_format.specs.Way.{Way}
@@ -55,10 +56,10 @@ module _ {D O : Type 0} (world : OutletsOf D O) where
   -- no file
   pub shelved_none : (shelf : Shelf) (w : Outlets D O) → HasShelved world [] (shelf_in shelf w) (shelf_in shelf w)
   shelved_none shelf w = record {
-    told_by_disk = λ t. t;
-    untold_by_disk = λ t. t;
-    told_by_out = λ t. t;
-    untold_by_out = λ t. t;
+    tell = record {
+      by_disk = tells_still;
+      by_out = tells_still;
+    };
     working = λ works. works;
     disk_count = refl;
     out_count = refl;
@@ -94,10 +95,10 @@ module _ {D O : Type 0} (world : OutletsOf D O) where
         → HasShelved world ys (shelf_in shelf1 w1) (shelf_in shelf2 w2)
         → HasShelved world (xs ++ ys) (shelf_in shelf w) (shelf_in shelf2 w2)
     shelved_on {ys} {shelf2} {w2} next = record {
-      told_by_disk = λ t. next.told_by_disk (first.told_by_disk t);
-      untold_by_disk = λ t. first.untold_by_disk (next.untold_by_disk t);
-      told_by_out = λ t. next.told_by_out (first.told_by_out t);
-      untold_by_out = λ t. first.untold_by_out (next.untold_by_out t);
+      tell = record {
+        by_disk = tells_both first.tell.by_disk next.tell.by_disk;
+        by_out = tells_both first.tell.by_out next.tell.by_out;
+      };
       working = λ works. next.working (first.working works);
       disk_count = next.disk_count ∙ first.disk_count;
       out_count = next.out_count ∙ first.out_count;
@@ -108,16 +109,16 @@ module _ {D O : Type 0} (world : OutletsOf D O) where
       grown = subst (λ (l : List Placed). Grows l (shelf_in shelf w) (shelf_in shelf2 w2)) (sym (placed-append xs ys))
           (grows_on first.grown next.grown);
       count = omega (arith, next.count, first.count, length-append xs ys);
-      put = λ t. next.put (first.told_by_out t) ∙ lines_on ys t;
+      put = λ t. next.put (first.tell.by_out.told t) ∙ lines_on ys t;
       outside = λ t.
           subst (λ (l : List Placed). StaysOutside ((kept_by shelf).way.end - 1) (end_with (kept_by shelf).way.end l)
           (world.disk.contents w.disk) (world.disk.contents w2.disk)) (sym (placed-append xs ys))
           (stays_after (kept_by shelf).way (kept_by shelf1).way (placed_files xs) (world.disk.contents w.disk)
           (world.disk.contents w1.disk) (world.disk.contents w2.disk) first.grown.ends (first.outside t)
-          (placed_files ys) (next.outside (first.told_by_disk t)));
+          (placed_files ys) (next.outside (first.tell.by_disk.told t)));
       moments = λ t only.
           let one = first.moments t only in
-          let two = next.moments (first.told_by_disk t) one.0 in (
+          let two = next.moments (first.tell.by_disk.told t) one.0 in (
             two.0,
             images_so xs ys (kept_by shelf).way w.disk w2.disk
                 (images_after world.disk (kept_by shelf).way (kept_by shelf1).way (placed_files xs) (placed_files ys)
@@ -138,7 +139,7 @@ module _ {D O : Type 0} (world : OutletsOf D O) where
           done = xs ++ done;
           rest = next.rest;
           split = ap (λ (l : List NotedFile). xs ++ l) next.split ∙ sym (append_assoc xs done next.rest);
-          got = λ other t. next.got other (first.told_by_out t) ∙ lines_on done t;
+          got = λ other t. next.got other (first.tell.by_out.told t) ∙ lines_on done t;
           cut = λ is.
               let cut = next.cut is in
               let there : number1 + length done ≡ number + length (xs ++ done) =
@@ -152,7 +153,7 @@ module _ {D O : Type 0} (world : OutletsOf D O) where
                     (world.out.contents o2)) (lines_on done t)
                     (subst (λ (k : ℕ). PutsPart (noted_line k cut.next)
                     (world.out.contents w1.out ++ shelved_lines number1 done) (world.out.contents o2)) there
-                    (cut.part (first.told_by_out t)));
+                    (cut.part (first.tell.by_out.told t)));
               };
         }
 
@@ -162,10 +163,10 @@ module _ {D O : Type 0} (world : OutletsOf D O) where
         → StopsShelving world cause (xs ++ ys) (shelf_in shelf w) w2
     stopped_after {cause} {ys} {w2} stopped = record {
       kind = stopped.kind;
-      told_by_disk = λ t. stopped.told_by_disk (first.told_by_disk t);
-      untold_by_disk = λ t. first.untold_by_disk (stopped.untold_by_disk t);
-      told_by_out = λ t. stopped.told_by_out (first.told_by_out t);
-      untold_by_out = λ t. first.untold_by_out (stopped.untold_by_out t);
+      tell = record {
+        by_disk = tells_both first.tell.by_disk stopped.tell.by_disk;
+        by_out = tells_both first.tell.by_out stopped.tell.by_out;
+      };
       first = λ works. first_later cause 0 0 (world.disk.faults w.disk) (world.disk.faults w1.disk)
           (world.disk.faults w2.disk) (world.out.faults w.out) (world.out.faults w1.out)
           (world.out.faults w2.out) first.disk_count first.out_count (stopped.first (first.working works));
@@ -184,13 +185,13 @@ module _ {D O : Type 0} (world : OutletsOf D O) where
           changes_so xs ys (kept_by shelf).way (world.disk.contents w.disk) (world.disk.contents w2.disk)
           (change_after (kept_by shelf).way (kept_by shelf1).way (placed_files xs) (world.disk.contents w.disk)
           (world.disk.contents w1.disk) (world.disk.contents w2.disk) first.grown.ends (first.outside t)
-          (placed_files ys) first.grown.same first.grown.room (stopped.outside (first.told_by_disk t)));
+          (placed_files ys) first.grown.same first.grown.room (stopped.outside (first.tell.by_disk.told t)));
       moments = λ t only.
           let one = first.moments t only in
           images_so xs ys (kept_by shelf).way w.disk w2.disk
           (images_after world.disk (kept_by shelf).way (kept_by shelf1).way (placed_files xs) (placed_files ys) w.disk
           w1.disk w2.disk first.grown.ends first.grown.same first.grown.room (first.outside t) one.1
-          (stopped.moments (first.told_by_disk t) one.0));
+          (stopped.moments (first.tell.by_disk.told t) one.0));
     }
 
   lines_before : {cause : Cause} {number : ℕ} {xs : List NotedFile} (ys : List NotedFile) {o o' : O}
@@ -215,10 +216,7 @@ module _ {D O : Type 0} (world : OutletsOf D O) where
       → StopsShelving world cause xs (shelf_in shelf w) w' → StopsShelving world cause (xs ++ ys) (shelf_in shelf w) w'
   stopped_before {cause} {xs} ys {shelf} {w} {w'} stopped = record {
     kind = stopped.kind;
-    told_by_disk = stopped.told_by_disk;
-    untold_by_disk = stopped.untold_by_disk;
-    told_by_out = stopped.told_by_out;
-    untold_by_out = stopped.untold_by_out;
+    tell = stopped.tell;
     first = stopped.first;
     stops = λ initial done before so_far.
         subst (λ (l : List NotedFile). Stops world (files_onto initial l) cause before w') (append_assoc done xs ys)

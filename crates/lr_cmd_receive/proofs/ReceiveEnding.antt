@@ -3,6 +3,7 @@ use Rattle.std.proofs.Common.{◌≡◌, inl, inr, ℕ, List, [], ◌++◌, leng
 use Rattle.std.proofs.Common.{arith, append_assoc, append-nil}
 use Rattle.lr_bits.specs.Faults.{Rose}
 use Rattle.lr_bits.specs.declared.placed.Placed.{Placed}
+use Rattle.lr_bits.proofs.Telling.{tells_both, tells_still}
 use Rattle.lr_io.specs.declared.source.Source.{Ghosts as SourceOf}
 use Rattle.lr_io.specs.declared.sink.Sink.{Ghosts as SinkOf}
 use Rattle.lr_layers.specs.Layers.{CountsView, mended_numbers_of}
@@ -77,8 +78,7 @@ loaded world initial w d1 shelf settled run count = record {
   settled = settled;
   any_moment = weaker world.disk.moment world.disk.left_since w.disk d1 _ _ (front_none initial) run;
   put = record {
-    told = λ t. t;
-    untold = λ t. t;
+    tell = tells_still;
     put = λ t. got_none world.out initial w.out t;
     kept = refl;
   };
@@ -164,10 +164,7 @@ module _ {S D O : Type 0} (world : World S D O) (mend : ℕ) (input : Input) (li
           bytes = some.bytes;
           read = some.read;
           kind = inl stopped.kind;
-          told_by_disk = stopped.told_by_disk;
-          untold_by_disk = stopped.untold_by_disk;
-          told_by_out = stopped.told_by_out;
-          untold_by_out = stopped.untold_by_out;
+          tell = stopped.tell;
           first = λ works. first_beside cause (world.source.faults w.source)
               (world.source.faults w1.source) (world.disk.faults w.disk) (world.disk.faults w1.disk)
               (world.out.faults w.out) (world.out.faults w1.out) stopped.kind (stopped.first works);
@@ -228,10 +225,10 @@ module _ {S D O : Type 0} (world : World S D O) (mend : ℕ) (input : Input) (li
           bytes = all.bytes;
           read = all.ends.read;
           kind = inl tt;
-          told_by_disk = all.shelved.told_by_disk;
-          untold_by_disk = all.shelved.untold_by_disk;
-          told_by_out = λ t. fails.told (all.shelved.told_by_out t);
-          untold_by_out = λ t. all.shelved.untold_by_out (fails.untold t);
+          tell = record {
+            by_disk = all.shelved.tell.by_disk;
+            by_out = tells_both all.shelved.tell.by_out fails.tell;
+          };
           first = λ works. first_out (world.source.faults w.source) (world.source.faults w1.source)
               (world.disk.faults w.disk) (world.disk.faults w1.disk) (world.out.faults w.out) (world.out.faults o2)
               (subst (λ (k : ℕ). Rose k (world.out.faults o2)) all.shelved.out_count fails.rose)
@@ -240,7 +237,7 @@ module _ {S D O : Type 0} (world : World S D O) (mend : ℕ) (input : Input) (li
               let so_far = all.shelved.shelved initial [] before begun in
               let none = none_waits initial before so_far.settled.on_disk
               (λ t.
-              let cut = fails.part (so_far.put.told t) in (
+              let cut = fails.part (so_far.put.tell.told t) in (
                 cut.part,
                 cut.put ∙ ap (λ (l : List ℕ). l ++ cut.part) (so_far.put.put t)
                     ∙ append_assoc (world.out.contents before.out)
@@ -252,7 +249,7 @@ module _ {S D O : Type 0} (world : World S D O) (mend : ℕ) (input : Input) (li
                   reason = all.ends.reason;
                   durable = so_far.settled.on_disk;
                   part = λ t.
-                      let cut = fails.part (so_far.put.told t) in
+                      let cut = fails.part (so_far.put.tell.told t) in
                       record {
                         part = cut.part;
                         rest = cut.rest;
@@ -274,7 +271,7 @@ module _ {S D O : Type 0} (world : World S D O) (mend : ℕ) (input : Input) (li
               stop = sums.totals.stop;
               reason = all.ends.reason;
               part = λ t.
-                  let cut = fails.part (all.shelved.told_by_out t) in
+                  let cut = fails.part (all.shelved.tell.by_out.told t) in
                   record {
                     part = cut.part;
                     rest = cut.rest;
@@ -295,10 +292,13 @@ module _ {S D O : Type 0} (world : World S D O) (mend : ℕ) (input : Input) (li
           bytes = all.bytes;
           read = all.ends.read;
           kind = inl tt;
-          told_by_disk = all.shelved.told_by_disk;
-          untold_by_disk = all.shelved.untold_by_disk;
-          told_by_out = λ t. subst world.out.tells (sym same) (all.shelved.told_by_out t);
-          untold_by_out = λ t. all.shelved.untold_by_out (subst world.out.tells same t);
+          tell = record {
+            by_disk = all.shelved.tell.by_disk;
+            by_out = record {
+              told = λ t. subst world.out.tells (sym same) (all.shelved.tell.by_out.told t);
+              untold = λ t. all.shelved.tell.by_out.untold (subst world.out.tells same t);
+            };
+          };
           first = λ works. first_stays NoMemory (world.source.faults w.source) (world.source.faults w1.source)
               (world.disk.faults w.disk) (world.disk.faults w1.disk) (world.out.faults w.out) (world.out.faults o2)
               tt tt
@@ -347,10 +347,10 @@ module _ {S D O : Type 0} (world : World S D O) (mend : ℕ) (input : Input) (li
           bytes = all.bytes;
           read = all.ends.read;
           kind = inr (work_at sums.totals.stop);
-          told_by_disk = all.shelved.told_by_disk;
-          untold_by_disk = all.shelved.untold_by_disk;
-          told_by_out = λ t. put.told (all.shelved.told_by_out t);
-          untold_by_out = λ t. all.shelved.untold_by_out (put.untold t);
+          tell = record {
+            by_disk = all.shelved.tell.by_disk;
+            by_out = tells_both all.shelved.tell.by_out put.tell;
+          };
           first = λ works. first_done sums.totals.stop (world.source.faults w.source)
               (world.source.faults w1.source) (world.disk.faults w.disk)
               (world.disk.faults w1.disk) (world.out.faults w.out) (world.out.faults o2)
@@ -362,7 +362,7 @@ module _ {S D O : Type 0} (world : World S D O) (mend : ℕ) (input : Input) (li
               let none = none_waits initial before so_far.settled.on_disk
               (λ t. (
                 sums_line sums,
-                put.put (so_far.put.told t) ∙ ap (λ (l : List ℕ). l ++ sums_line sums) (so_far.put.put t)
+                put.put (so_far.put.tell.told t) ∙ ap (λ (l : List ℕ). l ++ sums_line sums) (so_far.put.put t)
                     ∙ append_assoc (world.out.contents before.out) (shelved_lines (next_number initial) files)
                     (sums_line sums),
               )) in (
@@ -372,7 +372,7 @@ module _ {S D O : Type 0} (world : World S D O) (mend : ℕ) (input : Input) (li
                       reason = all.ends.reason;
                       durable = so_far.settled.on_disk;
                       got = λ t.
-                          put.put (so_far.put.told t) ∙ ap (λ (l : List ℕ). l ++ sums_line sums) (so_far.put.put t)
+                          put.put (so_far.put.tell.told t) ∙ ap (λ (l : List ℕ). l ++ sums_line sums) (so_far.put.put t)
                           ∙ append_assoc (world.out.contents before.out) (shelved_lines (next_number initial) files)
                           (sums_line sums)
                           ∙ ap (λ (l : List ℕ). world.out.contents before.out
@@ -390,7 +390,8 @@ module _ {S D O : Type 0} (world : World S D O) (mend : ℕ) (input : Input) (li
               got = λ t.
                   let lines = shelved_lines (length (kept_by shelf).way.entries)
                   (files_of_bytes mend input all.bytes) in
-                  put.put (all.shelved.told_by_out t) ∙ ap (λ (l : List ℕ). l ++ sums_line sums) (all.shelved.put t)
+                  put.put (all.shelved.tell.by_out.told t) ∙ ap (λ (l : List ℕ). l ++ sums_line sums)
+                  (all.shelved.put t)
                   ∙ append_assoc (world.out.contents w.out) lines (sums_line sums)
                   ∙ ap (λ (l : List ℕ). world.out.contents w.out ++ (lines ++ l)) line_is;
             },

@@ -3,6 +3,7 @@ use Rattle.std.proofs.Common.{◌≡◌, inl, inr, false, true, ◌+◌, ℕ, Li
 use Rattle.std.proofs.Common.{◌∙◌, ap, subst, arith, append_assoc, append-nil}
 use Rattle.lr_bits.specs.File.{IsFile}
 use Rattle.lr_bits.specs.declared.placed.Placed.{Placed}
+use Rattle.lr_bits.proofs.Telling.{tells_both}
 use Rattle.lr_io.specs.declared.sink.Sink.{Ghosts as SinkOf}
 use Rattle.lr_disk.specs.declared.disk.Disk.{Ghosts as DiskOf}
 use Rattle.lr_disk.specs.Pending.{EachImageSince}
@@ -239,10 +240,9 @@ module _ {D O : Type 0} (world : OutletsOf D O) (initial : InitialShelf) (done :
         settled = settled;
         any_moment = moments;
         put = record {
-          told = λ t. put.told (so_far.put.told t);
-          untold = λ t. so_far.put.untold (put.untold t);
+          tell = tells_both so_far.put.tell put.tell;
           put = λ t.
-              put.put (so_far.put.told t)
+              put.put (so_far.put.tell.told t)
               ∙ ap (λ (l : List ℕ). l ++ text) (so_far.put.put t)
               ∙ append_assoc (out.contents w.out) (shelved_lines (next_number initial) done) text
               ∙ ap (λ (l : List ℕ). out.contents w.out ++ l) (sym lines_are);
@@ -263,7 +263,7 @@ module _ {D O : Type 0} (world : OutletsOf D O) (initial : InitialShelf) (done :
           split = sym (append-nil (done ++ noted ∷ []));
           durable = settled.on_disk;
           part = λ t.
-              let cut = fails.part (so_far.put.told t) in
+              let cut = fails.part (so_far.put.tell.told t) in
               record {
                 part = cut.part;
                 rest = cut.rest;

@@ -6,6 +6,7 @@ use Rattle.std.proofs.lemmas.Bool.{cases_lt}
 use Rattle.lr_bits.specs.File.{IsFile}
 use Rattle.lr_bits.specs.declared.placed.Placed.{Placed}
 use Rattle.lr_bits.specs.Sizes.{most_u64}
+use Rattle.lr_bits.proofs.Telling.{tells_still}
 use Rattle.lr_io.specs.declared.sink.Sink.{Ghosts as SinkOf}
 use Rattle.lr_disk.specs.declared.disk.Disk.{Ghosts as DiskOf}
 use Rattle.lr_disk.specs.Pending.{EachImageSince}
@@ -151,10 +152,10 @@ pub no_line : {D O : Type 0} (world : OutletsOf D O) (files : List NotedFile) (s
     → StopsShelving world NoMemory files (shelf_in shelf w) w
 no_line world files shelf w = record {
   kind = tt;
-  told_by_disk = λ t. t;
-  untold_by_disk = λ t. t;
-  told_by_out = λ t. t;
-  untold_by_out = λ t. t;
+  tell = record {
+    by_disk = tells_still;
+    by_out = tells_still;
+  };
   first = λ works. first_stays NoMemory 0 0 (world.disk.faults w.disk) (world.disk.faults w.disk)
       (world.out.faults w.out) (world.out.faults w.out) tt tt refl refl;
   stops = λ initial done before so_far. out_of_memory world initial done shelf before w so_far files;
@@ -183,10 +184,10 @@ module _ {D O : Type 0} (disk : DiskOf D)
       let adds = appends.adds in
       record {
         kind = append_kind (item_for placed) (kept_by shelf) e appends.refused;
-        told_by_disk = adds.calls.told;
-        untold_by_disk = adds.calls.untold;
-        told_by_out = λ t. t;
-        untold_by_out = λ t. t;
+        tell = record {
+          by_disk = adds.calls.tell;
+          by_out = tells_still;
+        };
         first = λ works. first_refused {A = ℕ} e (Err e) 0 0 (disk.faults d) (disk.faults d') (out.faults o) refl
             (append_works (item_for placed) (kept_by shelf) e appends.refused works) adds.calls.counted;
         stops = λ initial done before so_far.
@@ -256,10 +257,10 @@ module _ {D O : Type 0} (disk : DiskOf D)
         → HasShelved (outlets_of disk out) (noted ∷ []) (shelf_in shelf (outlets d o))
         (shelf_in shelf' (outlets d' o'))
     one_shelved put = record {
-      told_by_disk = appends.adds.calls.told;
-      untold_by_disk = appends.adds.calls.untold;
-      told_by_out = put.told;
-      untold_by_out = put.untold;
+      tell = record {
+        by_disk = appends.adds.calls.tell;
+        by_out = put.tell;
+      };
       working = λ works. ap (λ (k : KeptShelf). k.failed) appends.adds.kept ∙ works;
       disk_count = appends.adds.calls.counted;
       out_count = put.kept;
@@ -295,10 +296,10 @@ module _ {D O : Type 0} (disk : DiskOf D)
         (outlets d' o')
     one_cut fails = record {
       kind = tt;
-      told_by_disk = appends.adds.calls.told;
-      untold_by_disk = appends.adds.calls.untold;
-      told_by_out = fails.told;
-      untold_by_out = fails.untold;
+      tell = record {
+        by_disk = appends.adds.calls.tell;
+        by_out = fails.tell;
+      };
       first = λ works. first_out 0 0 (disk.faults d) (disk.faults d') (out.faults o) (out.faults o') fails.rose
           appends.adds.calls.counted;
       stops = λ initial done before so_far.
@@ -333,7 +334,7 @@ module _ {D O : Type 0} (disk : DiskOf D)
               };
             };
             told = λ t.
-                let cut = fails.part (so_far.put.told t) in (
+                let cut = fails.part (so_far.put.tell.told t) in (
                   cut.part,
                   cut.put ∙ ap (λ (l : List ℕ). l ++ cut.part) (so_far.put.put t)
                       ∙ append_assoc (out.contents before.out) lines cut.part,

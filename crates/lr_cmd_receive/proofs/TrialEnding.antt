@@ -4,6 +4,7 @@ use Rattle.std.proofs.Common.{length, refl, sym, ◌∙◌, ap, subst, arith, Re
 use Rattle.std.proofs.Common.{OnOk, OnErr}
 use Rattle.lr_bits.specs.Faults.{Rose}
 use Rattle.lr_bits.specs.declared.placed.Placed.{Placed}
+use Rattle.lr_bits.proofs.Telling.{tells_both, tells_still}
 use Rattle.lr_io.specs.declared.sink.Sink.{Ghosts as SinkOf}
 use Rattle.lr_disk.specs.declared.disk.Disk.{Ghosts as DiskOf}
 use Rattle.lr_disk.specs.Disk.{Cut}
@@ -90,10 +91,10 @@ module _ {D O : Type 0} (disk : DiskOf D) (out : SinkOf O) (symbols : List ℕ) 
     init_stops = record {
       on_disk = init_refused;
       on_out = refused_out e refusal;
-      told_by_disk = inits.calls.told;
-      untold_by_disk = inits.calls.untold;
-      told_by_out = λ t. t;
-      untold_by_out = λ t. t;
+      tell = record {
+        by_disk = inits.calls.tell;
+        by_out = tells_still;
+      };
       first = first_refused e result 0 0 (disk.faults d) (disk.faults d1) (out.faults o) is
           (λ failed. subst (λ (x : ShelfError). IsInitRefusal disk d d1 x) failed refusal) inits.calls.counted;
     }
@@ -136,21 +137,21 @@ module _ {D O : Type 0} (disk : DiskOf D) (out : SinkOf O) (symbols : List ℕ) 
           (inits.written told))
 
       filled_bytes : disk.tells d → GotFiles symbols (new_shelf trial_capacity) (disk.contents d2)
-      filled_bytes told = made_so told (disk.contents d2) (fills.on_disk.got (inits.calls.told told))
+      filled_bytes told = made_so told (disk.contents d2) (fills.on_disk.got (inits.calls.tell.told told))
 
       filled_moments : disk.tells d → Leaves d1 d2
       filled_moments told = weaker disk.moment disk.left_since d1 d2 _ _ (λ c got. inr (made_so told c got))
-          (fills.on_disk.any_moment (inits.calls.told told))
+          (fills.on_disk.any_moment (inits.calls.tell.told told))
 
       -- ---- memory wasn't refused
       whole_ends : (cause : Cause) → (cause ≡ NoMemory → ⊥) → FillEnds disk symbols cause d1 d2
           → DiskEnds disk symbols cause d d2
-      whole_ends Done other ends = (λ told. ends.0 (inits.calls.told told), ends.1 ∙ same_count)
+      whole_ends Done other ends = (λ told. ends.0 (inits.calls.tell.told told), ends.1 ∙ same_count)
       whole_ends (Failed Disk) other ends = tt
-      whole_ends (Failed Output) other ends = λ told. ends (inits.calls.told told)
+      whole_ends (Failed Output) other ends = λ told. ends (inits.calls.tell.told told)
       whole_ends NoMemory other ends = absurd (other refl)
-      whole_ends (Refused (NotAShelf at)) other ends = λ told. ends (inits.calls.told told)
-      whole_ends (Refused (Capacity needed most)) other ends = λ told. ends (inits.calls.told told)
+      whole_ends (Refused (NotAShelf at)) other ends = λ told. ends (inits.calls.tell.told told)
+      whole_ends (Refused (Capacity needed most)) other ends = λ told. ends (inits.calls.tell.told told)
       whole_ends _ other ends = absurd ends
 
       pub filled_first : CountsTell SourceBesides cause2 (counts 0 (disk.faults d) (out.faults o))
@@ -165,10 +166,10 @@ module _ {D O : Type 0} (disk : DiskOf D) (out : SinkOf O) (symbols : List ℕ) 
         on_disk = after cause2 d2 (whole_ends cause2 other fills.on_disk.ends) (λ told. inr (filled_bytes told))
             filled_moments;
         on_out = fills.on_out;
-        told_by_disk = λ t. fills.on_disk.told (inits.calls.told t);
-        untold_by_disk = λ t. inits.calls.untold (fills.on_disk.untold t);
-        told_by_out = fills.told_by_out;
-        untold_by_out = fills.untold_by_out;
+        tell = record {
+          by_disk = tells_both inits.calls.tell fills.on_disk.tell;
+          by_out = fills.by_out;
+        };
         first = filled_first;
       }
 
@@ -176,10 +177,10 @@ module _ {D O : Type 0} (disk : DiskOf D) (out : SinkOf O) (symbols : List ℕ) 
     module _ (d2 : D) (o2 : O)
         (fills : Fills (outlets_of disk out) symbols NoMemory (outlets d1 o) (outlets d2 o2)) where
       told_there : disk.tells d → disk.tells d2
-      told_there told = fills.on_disk.told (inits.calls.told told)
+      told_there told = fills.on_disk.tell.told (inits.calls.tell.told told)
 
       abbrev held : disk.tells d → HoldsTrialPart disk symbols 0 d2
-      held told = fills.on_disk.ends (inits.calls.told told)
+      held told = fills.on_disk.ends (inits.calls.tell.told told)
 
       -- the items that stand there
       abbrev items : disk.tells d → List Item
@@ -264,10 +265,13 @@ module _ {D O : Type 0} (disk : DiskOf D) (out : SinkOf O) (symbols : List ℕ) 
             (λ c left. ⊎_elim (λ blank. inl blank) (λ there. inr (cut_part told c there.0 there.1)) left)
             (moments (told_there told) (items told) (durable told))));
         on_out = out_so cause early;
-        told_by_disk = λ t. told' (told_there t);
-        untold_by_disk = λ t. inits.calls.untold (fills.on_disk.untold (untold' t));
-        told_by_out = fills.told_by_out;
-        untold_by_out = fills.untold_by_out;
+        tell = record {
+          by_disk = record {
+            told = λ t. told' (told_there t);
+            untold = λ t. inits.calls.tell.untold (fills.on_disk.tell.untold (untold' t));
+          };
+          by_out = fills.by_out;
+        };
         first = first_after cause (disk.faults d) (disk.faults d2) (disk.faults d') (out.faults o)
             (out.faults o2) early
             (fills.first.others Disk (λ is. cc (is)) (λ b. b) ∙ same_count)

@@ -1,7 +1,7 @@
 -- What a trial comes to, by what became of its receiving.
-use Rattle.std.proofs.Common.{◌≡◌, ℕ, List, [], ◌++◌, refl, sym, ap, subst, arith, append-nil}
+use Rattle.std.proofs.Common.{◌≡◌, ℕ, List, [], refl, sym, ap, subst, arith, append-nil}
+use Rattle.lr_bits.proofs.Telling.{tells_still}
 use Rattle.lr_io.specs.declared.sink.Sink.{Ghosts as SinkOf}
-use Rattle.lr_io.specs.Pieces.{PutsPart}
 use Rattle.lr_disk.specs.declared.disk.Disk.{Ghosts as DiskOf}
 use Rattle.lr_forms.specs.declared.forms.Stop.TheVariants.{End}
 use Rattle.lr_causes.specs.declared.cause.Cause.{Cause}
@@ -16,6 +16,7 @@ use Rattle.lr_cmd_receive.specs.Reception.{sums_line, PutsLast, LastStops}
 use Rattle.lr_cmd_receive.specs.Shelved.{StopsTrial}
 use Rattle.lr_cmd_receive.specs.Trial.{HoldsTrialPart, OutEnds, trial_files}
 use Rattle.lr_cmd_receive.specs.Filling.{FillEnds, FillsDisk, Fills, StopsFilling}
+use Rattle.lr_causes.specs.Puts.{PutFails, Puts}
 use Rattle.lr_causes.proofs.Counting.{counts_tell}
 use Rattle.lr_cmd_receive.proofs.Causing.{first_disk, first_out, first_stays}
 use Rattle.lr_causes.specs.Counts.{CountsTell}
@@ -41,8 +42,7 @@ module _ {D O : Type 0} (disk : DiskOf D) (out : SinkOf O) (symbols : List ℕ) 
 
   left_by : (cause : Cause) → FillEnds disk symbols cause d d' → FillsDisk disk symbols cause d d'
   left_by cause ends = record {
-    told = done.told;
-    untold = done.untold;
+    tell = done.tell;
     ends = ends;
     got = done.got;
     any_moment = done.any_moment;
@@ -53,16 +53,14 @@ module _ {D O : Type 0} (disk : DiskOf D) (out : SinkOf O) (symbols : List ℕ) 
         → Fills (outlets_of disk out) symbols cause (outlets d o) (outlets d' o')
     last_stops (Failed Output) stops = record {
       on_disk = left_by (Failed Output) done.ends.0;
-      on_out = λ told. subst (λ (l : List ℕ). PutsPart l (out.contents o) (out.contents o')) line (stops.part told);
-      told_by_out = stops.told;
-      untold_by_out = stops.untold;
+      on_out = subst (λ (l : List ℕ). PutFails out l o o') line stops;
+      by_out = stops.tell;
       first = first_out 0 0 (disk.faults d) (disk.faults d') (out.faults o) (out.faults o') stops.rose done.ends.1;
     }
     last_stops NoMemory stops = record {
       on_disk = left_by NoMemory all_held;
       on_out = stops;
-      told_by_out = λ t. subst out.tells (sym stops) t;
-      untold_by_out = λ t. subst out.tells stops t;
+      by_out = record { told = λ t. subst out.tells (sym stops) t; untold = λ t. subst out.tells stops t };
       first = first_stays NoMemory 0 0 (disk.faults d) (disk.faults d') (out.faults o) (out.faults o') tt tt
           done.ends.1 (ap out.faults stops);
     }
@@ -72,12 +70,8 @@ module _ {D O : Type 0} (disk : DiskOf D) (out : SinkOf O) (symbols : List ℕ) 
     pub last_put : PutsLast out sums o o' → Fills (outlets_of disk out) symbols Done (outlets d o) (outlets d' o')
     last_put puts = record {
       on_disk = done;
-      on_out = (
-        λ told. subst (λ (l : List ℕ). out.contents o' ≡ out.contents o ++ l) line (puts.put told),
-        puts.kept,
-      );
-      told_by_out = puts.told;
-      untold_by_out = puts.untold;
+      on_out = subst (λ (l : List ℕ). Puts out l o o') line puts;
+      by_out = puts.tell;
       first = counts_tell SourceBesides Done (counts 0 (disk.faults d) (out.faults o))
           (counts 0 (disk.faults d') (out.faults o')) tt (λ not none. refl) (λ not none. done.ends.1)
           (λ not none. puts.kept);
@@ -114,7 +108,6 @@ module _ {D O : Type 0} (disk : DiskOf D) (out : SinkOf O) (symbols : List ℕ) 
   stream_stops cause stops = record {
     on_disk = stops.fills;
     on_out = silent cause stops.kind;
-    told_by_out = λ t. t;
-    untold_by_out = λ t. t;
+    by_out = tells_still;
     first = beside_out cause stops.kind stops.first;
   }

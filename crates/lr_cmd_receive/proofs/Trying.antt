@@ -4,6 +4,7 @@ use Rattle.std.proofs.Common.{map, refl, sym, ◌∙◌, ap, subst, arith, appen
 use Rattle.std.proofs.Common.{length-append, Result, Ok, Err, IfOk, IfErr, OnOk}
 use Rattle.lr_bits.specs.Faults.{Rose}
 use Rattle.lr_bits.specs.declared.placed.Placed.{Placed}
+use Rattle.lr_bits.proofs.Telling.{tells_both}
 use Rattle.lr_io.specs.declared.source.Source.{Ghosts as SourceOf}
 use Rattle.lr_io.specs.declared.sink.Sink.{Ghosts as SinkOf}
 use Rattle.lr_disk.specs.declared.disk.Disk.{Ghosts as DiskOf}
@@ -133,8 +134,7 @@ module _ {D : Type 0} (disk : DiskOf D) (symbols : List ℕ) (d1 : D)
     not_loaded e is r = record {
       kind = unloaded_kind e r;
       fills = record {
-        told = loads.calls.told;
-        untold = loads.calls.untold;
+        tell = loads.calls.tell;
         ends = unloaded_ends e is r;
         got = got_none;
         any_moment = λ told. weaker disk.moment disk.left_since d1 d2 _ _
@@ -298,18 +298,17 @@ module _ {D : Type 0} (disk : DiskOf D) (symbols : List ℕ) (d1 : D)
           stopped = record {
             kind = kind;
             fills = record {
-              told = λ t. some.stopped.told_by_disk (loads.calls.told t);
-              untold = λ t. loads.calls.untold (some.stopped.untold_by_disk t);
+              tell = tells_both loads.calls.tell some.stopped.tell.by_disk;
               ends = stopped_ends cause
                   (λ told. (some.early.stops (OfItems trial_capacity []) [] (outlets d1 o) (begun told)).why) kind;
               got = λ told.
                   got_front (placed_files some.files) come_first.0 come_first.1 told
                   (some.early.keeps (OfItems trial_capacity []) [] (outlets d1 o) (begun told)).held.contents
-                  (some.early.outside (loads.calls.told told));
+                  (some.early.outside (loads.calls.tell.told told));
               any_moment = λ told.
                   got_moments (placed_files some.files) come_first.0 come_first.1 told
                   (some.early.stops (OfItems trial_capacity []) [] (outlets d1 o) (begun told)).any_moment
-                  (some.early.moments (loads.calls.told told)
+                  (some.early.moments (loads.calls.tell.told told)
                   (only_loaded (placed_files some.files) come_first.0 come_first.1 told));
             };
             first = first;
@@ -358,8 +357,7 @@ module _ {D : Type 0} (disk : DiskOf D) (symbols : List ℕ) (d1 : D)
 
         pub finished : FillsDisk disk symbols Done d1 d'
         finished = record {
-          told = λ t. all.shelved.told_by_disk (loads.calls.told t);
-          untold = λ t. loads.calls.untold (all.shelved.untold_by_disk t);
+          tell = tells_both loads.calls.tell all.shelved.tell.by_disk;
           ends = (
             λ told. subst (λ (l : List ℕ). IsDurable disk trial_capacity
                 (with_files [] (trial_files l)) d') ended_so.1 (durable told),
@@ -375,10 +373,10 @@ module _ {D : Type 0} (disk : DiskOf D) (symbols : List ℕ) (d1 : D)
                 stands = (so_far told).settled.on_disk.stands;
               })
               (change_for (kept_by shelf).way all_files (disk.contents d2) (disk.contents d') all.shelved.grown.room
-              (all.shelved.outside (loads.calls.told told)));
+              (all.shelved.outside (loads.calls.tell.told told)));
           any_moment = λ told.
               got_moments all_files [] are_all told (so_far told).any_moment
-              (all.shelved.moments (loads.calls.told told) (only_loaded all_files [] are_all told)).1;
+              (all.shelved.moments (loads.calls.tell.told told) (only_loaded all_files [] are_all told)).1;
         }
 
       -- ---- for either answer

@@ -2,6 +2,7 @@
 use Rattle.std.proofs.Common.{◌≡◌, inl, inr, false, ℕ, List, [], refl, sym, ◌∙◌, ap, subst, arith}
 use Rattle.std.proofs.Common.{Result, Ok, Err, IfOk, MatchResult, OnOk, append-nil, length, ⊎_elim}
 use Rattle.lr_bits.specs.declared.placed.Placed.{Placed}
+use Rattle.lr_bits.proofs.Telling.{tells_both, tells_still}
 use Rattle.lr_disk.specs.Reads.{IsOnlyRead}
 use Rattle.lr_disk.specs.Pending.{EachImageSince, NothingPending}
 use Rattle.lr_disk.proofs.Moments.{joined, weaker, stays}
@@ -134,12 +135,10 @@ module _ {S D O : Type 0} (world : World S D O) (mend : ℕ) (input : Input) (wo
     causes = load_cause world.disk w.disk e refusal;
     first = first_of e is refusal;
     bytes = [];
-    read = record { told = λ t. t; untold = λ t. t; moved = λ t. refl; few = omega arith; asked = inl (refl, refl) };
+    read = record { tell = tells_still; moved = λ t. refl; few = omega arith; asked = inl (refl, refl) };
     tell = record {
-      told_by_disk = loads.calls.told;
-      untold_by_disk = loads.calls.untold;
-      told_by_out = λ t. t;
-      untold_by_out = λ t. t;
+      by_disk = loads.calls.tell;
+      by_out = tells_still;
     };
     onto = record {
       shelf = λ capacity items told durable.
@@ -247,7 +246,7 @@ module _ {S D O : Type 0} (world : World S D O) (mend : ℕ) (input : Input) (wo
           (has_one_way (world.disk.contents w.disk)).way (kept_by shelf).way way (is_way told) way_is in
           onto (OfWay way (world.disk.contents w.disk)) told begins only
           (record {
-            told = loads.calls.told told;
+            told = loads.calls.tell.told told;
             kept = record { way = same; working = working };
             on_disk = still (OfWay way (world.disk.contents w.disk)) told begins only;
           })
@@ -261,7 +260,7 @@ module _ {S D O : Type 0} (world : World S D O) (mend : ℕ) (input : Input) (wo
           (if_ok (λ x. IsSettled world.disk capacity items x d1) (loads.settled capacity items told
           (subst (StandsForShelf (world.disk.contents w.disk) capacity) (append-nil items) stands)))
       settled_after (OfWay way old) told stands = record {
-        told = loads.calls.told told;
+        told = loads.calls.tell.told told;
         kept = record {
           way = (has_one_way (world.disk.contents w.disk)).way (kept_by shelf).way way (is_way told) stands.is_way;
           working = working;
@@ -337,7 +336,7 @@ module _ {S D O : Type 0} (world : World S D O) (mend : ℕ) (input : Input) (wo
           subst (λ (x : Way). ChangesFor x files (world.disk.contents w.disk) (world.disk.contents w'.disk))
           ((has_one_way (world.disk.contents w.disk)).way (kept_by shelf).way way (is_way told) has)
           (subst (λ (l : List ℕ). ChangesFor (kept_by shelf).way files l (world.disk.contents w'.disk))
-          (loads.only_read.unwritten told).contents (run.outside (loads.calls.told told)))
+          (loads.only_read.unwritten told).contents (run.outside (loads.calls.tell.told told)))
 
       images_run : (way : Way) → world.disk.tells w.disk → IsWay (world.disk.contents w.disk) way
           → NothingPending world.disk w.disk
@@ -357,7 +356,7 @@ module _ {S D O : Type 0} (world : World S D O) (mend : ℕ) (input : Input) (wo
           (λ c changes.
           subst (λ (x : Way). ChangesFor x files old c) same_way
           (subst (λ (l : List ℕ). ChangesFor (kept_by shelf).way files l c) read.contents changes)) then))
-          (run.moments (loads.calls.told told) (λ c image. only c (read.images c image) ∙ sym read.contents))
+          (run.moments (loads.calls.tell.told told) (λ c image. only c (read.images c image) ∙ sym read.contents))
 
       pub loaded_run : ReceiveRun world (receive_query mend input workers limit) cause w w'
       loaded_run = record {
@@ -366,10 +365,8 @@ module _ {S D O : Type 0} (world : World S D O) (mend : ℕ) (input : Input) (wo
         bytes = run.bytes;
         read = run.read;
         tell = record {
-          told_by_disk = λ t. run.told_by_disk (loads.calls.told t);
-          untold_by_disk = λ t. loads.calls.untold (run.untold_by_disk t);
-          told_by_out = run.told_by_out;
-          untold_by_out = run.untold_by_out;
+          by_disk = tells_both loads.calls.tell run.tell.by_disk;
+          by_out = run.tell.by_out;
         };
         onto = record {
           shelf = onto_shelf;

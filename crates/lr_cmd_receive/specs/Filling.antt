@@ -1,5 +1,6 @@
 -- How `trial` fills the shelf that it made, and takes it away again. No clause of a public call cites this.
 use Rattle.std.specs.Prelude.{◌≡◌, ◌≢◌, ◌⊎◌, ℕ, List, []}
+use Rattle.lr_bits.specs.Telling.{KeepsTelling}
 use Rattle.lr_disk.specs.declared.disk.Disk.{Ghosts as DiskOf}
 use Rattle.lr_disk.specs.Disk.{Cut}
 use Rattle.lr_disk.specs.Pending.{EachImageSince}
@@ -27,8 +28,7 @@ module _ {D : Type 0} (disk : DiskOf D) (symbols : List ℕ) where
   FillEnds cause d d' = DiskEnds disk symbols cause d d'
 
   pub record FillsDisk (cause : Cause) (d d' : D) : Type 0 where
-    pub told : disk.tells d → disk.tells d'
-    pub untold : disk.tells d' → disk.tells d
+    pub tell : KeepsTelling (disk.tells d) (disk.tells d')
     pub ends : FillEnds cause d d'
     -- the contents at the return
     pub got : disk.tells d → GotFiles symbols (disk.contents d) (disk.contents d')
@@ -46,8 +46,7 @@ module _ {D O : Type 0} (world : OutletsOf D O) (symbols : List ℕ) where
   pub record Fills (cause : Cause) (w w' : Outlets D O) : Type 0 where
     pub on_disk : FillsDisk world.disk symbols cause w.disk w'.disk
     pub on_out : OutEnds world.out symbols cause w.out w'.out
-    pub told_by_out : world.out.tells w.out → world.out.tells w'.out
-    pub untold_by_out : world.out.tells w'.out → world.out.tells w.out
+    pub by_out : KeepsTelling (world.out.tells w.out) (world.out.tells w'.out)
     pub first : CountsTell SourceBesides cause (outlet_counts world w) (outlet_counts world w')
 
 module _ {D : Type 0} (disk : DiskOf D) (items : List Item) where

@@ -1,7 +1,6 @@
 -- What `init` does to the outside.
 use Rattle.std.specs.Prelude.{◌≡◌, ◌⊎◌, ◌++◌, ℕ, List, [], ◌∷◌, length, codes, decimal}
 use Rattle.std.specs.List.{concat}
-use Rattle.lr_io.specs.Pieces.{PutsPart}
 use Rattle.lr_disk.specs.declared.disk.Disk.{Ghosts as DiskOf}
 use Rattle.lr_disk.specs.Reads.{IsOnlyRead, IsUnwritten}
 use Rattle.lr_disk.specs.Pending.{EachImageSince, NothingPending}
@@ -15,6 +14,7 @@ use Rattle.lr_causes.specs.declared.cause.Refusal.TheVariants.{NotEmpty}
 use Rattle.lr_causes.specs.Causes.{IsEarlier}
 use Rattle.lr_causes.specs.Outside.{Outlets, OutletsOf, outlet_counts}
 use Rattle.lr_causes.specs.Counts.{CountsTell}
+use Rattle.lr_causes.specs.Puts.{PutFails, Puts}
 use Rattle.lr_cmd_receive.specs.First.{SourceBesides}
 
 -- the line of a shelf that was made
@@ -33,15 +33,11 @@ module _ {D O : Type 0} (world : OutletsOf D O) (capacity : ℕ) where
   abbrev pub InitEnds : Cause → Outlets D O → Outlets D O → Type 0
   InitEnds Done w w' =
       (world.disk.tells w.disk → IsNewShelf world.disk capacity w'.disk)
-      × (world.out.tells w.out
-      → world.out.contents w'.out ≡ world.out.contents w.out ++ capacity_line capacity)
-      × (world.disk.faults w'.disk ≡ world.disk.faults w.disk)
-      × (world.out.faults w'.out ≡ world.out.faults w.out)
+      × Puts world.out (capacity_line capacity) w.out w'.out
   InitEnds (Failed Disk) w w' = w'.out ≡ w.out
   InitEnds (Failed Output) w w' =
       (world.disk.tells w.disk → IsNewShelf world.disk capacity w'.disk)
-      × (world.out.tells w.out
-      → PutsPart (capacity_line capacity) (world.out.contents w.out) (world.out.contents w'.out))
+      × PutFails world.out (capacity_line capacity) w.out w'.out
   InitEnds NoMemory w w' = (w'.disk ≡ w.disk) × (w'.out ≡ w.out)
   InitEnds (Refused (NotEmpty size)) w w' =
       (w'.out ≡ w.out) × IsOnlyRead world.disk w.disk w'.disk

@@ -22,7 +22,8 @@ use Rattle.lr_reading.specs.Runs.{ReadsInput, input_read}
 use Rattle.lr_cmd_receive.specs.Inputs.{files_of_bytes}
 use Rattle.lr_cmd_receive.specs.Noted.{NotedFile, noted_of_outcomes, placed_files}
 use Rattle.lr_causes.specs.Causes.{IsEarlier, cause_at}
-use Rattle.lr_causes.specs.Outside.{Outlets, OutletsOf, Outside, World, counts_in, outlets_in, outside, world_outlets}
+use Rattle.lr_causes.specs.Outside.{Outlets, OutletsOf, Outside, World, counts_in, outlets_in, outside}
+use Rattle.lr_causes.specs.Outside.{TellOn, world_outlets}
 use Rattle.lr_causes.specs.Counts.{CountsTell}
 use Rattle.lr_cmd_receive.specs.First.{SourceBesides}
 use Rattle.lr_shelf.specs.InitialShelves.{InitialShelf, LeavesPrefixes}
@@ -145,10 +146,7 @@ module _ {S D O : Type 0} (world : World S D O) (how : Reception) where
     pub bytes : List ℕ
     pub read : IsRead world.source how.limit bytes old.lent.source w'.source
     pub kind : MayStop cause ⊎ IsWorkDone cause
-    pub told_by_disk : world.disk.tells old.lent.disk → world.disk.tells w'.disk
-    pub untold_by_disk : world.disk.tells w'.disk → world.disk.tells old.lent.disk
-    pub told_by_out : world.out.tells old.lent.out → world.out.tells w'.out
-    pub untold_by_out : world.out.tells w'.out → world.out.tells old.lent.out
+    pub tell : TellOn (world_outlets world) (outlets_in old.lent) (outlets_in w')
     pub first : (kept_by old.shelf).failed ≡ false
         → CountsTell SourceBesides cause (counts_in world old.lent) (counts_in world w')
     pub ends : (initial : InitialShelf) (before : Outlets D O)

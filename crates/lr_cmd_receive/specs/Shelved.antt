@@ -10,7 +10,7 @@ use Rattle.lr_causes.specs.declared.cause.Cause.{Cause}
 use Rattle.lr_causes.specs.declared.cause.Cause.TheVariants.{Failed, NoMemory, Refused}
 use Rattle.lr_causes.specs.declared.cause.Party.TheVariants.{Disk, Output}
 use Rattle.lr_causes.specs.declared.cause.Refusal.TheVariants.{NotAShelf, Capacity}
-use Rattle.lr_causes.specs.Outside.{Outlets, OutletsOf, outlet_counts}
+use Rattle.lr_causes.specs.Outside.{Outlets, OutletsOf, TellOn, outlet_counts}
 use Rattle.lr_causes.specs.Puts.{Puts}
 use Rattle.lr_causes.specs.Counts.{CountsTell}
 use Rattle.lr_cmd_receive.specs.First.{SourceBesides}
@@ -87,10 +87,7 @@ module _ {D O : Type 0} (world : OutletsOf D O) where
 
   -- these files were shelved, and their lines put; nothing failed
   pub record HasShelved (files : List NotedFile) (old new : ShelfIn (Outlets D O)) : Type 0 where
-    pub told_by_disk : world.disk.tells old.lent.disk → world.disk.tells new.lent.disk
-    pub untold_by_disk : world.disk.tells new.lent.disk → world.disk.tells old.lent.disk
-    pub told_by_out : world.out.tells old.lent.out → world.out.tells new.lent.out
-    pub untold_by_out : world.out.tells new.lent.out → world.out.tells old.lent.out
+    pub tell : TellOn world old.lent new.lent
     pub working : (kept_by old.shelf).failed ≡ false → (kept_by new.shelf).failed ≡ false
     pub disk_count : world.disk.faults new.lent.disk ≡ world.disk.faults old.lent.disk
     pub out_count : world.out.faults new.lent.out ≡ world.out.faults old.lent.out
@@ -114,10 +111,7 @@ module _ {D O : Type 0} (world : OutletsOf D O) where
   pub record StopsShelving (cause : Cause) (files : List NotedFile) (old : ShelfIn (Outlets D O)) (w' : Outlets D O)
       : Type 0 where
     pub kind : MayStop cause
-    pub told_by_disk : world.disk.tells old.lent.disk → world.disk.tells w'.disk
-    pub untold_by_disk : world.disk.tells w'.disk → world.disk.tells old.lent.disk
-    pub told_by_out : world.out.tells old.lent.out → world.out.tells w'.out
-    pub untold_by_out : world.out.tells w'.out → world.out.tells old.lent.out
+    pub tell : TellOn world old.lent w'
     pub first : (kept_by old.shelf).failed ≡ false
         → CountsTell SourceBesides cause (outlet_counts world old.lent) (outlet_counts world w')
     -- after others, on any initial shelf

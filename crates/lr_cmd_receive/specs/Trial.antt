@@ -2,7 +2,6 @@
 use Rattle.std.specs.Prelude.{◌≡◌, ◌⊎◌, ℕ, List, [], length}
 use Rattle.lr_bits.specs.declared.placed.Placed.{Placed}
 use Rattle.lr_io.specs.declared.sink.Sink.{Ghosts as SinkOf}
-use Rattle.lr_io.specs.Pieces.{PutsPart}
 use Rattle.lr_conv.specs.declared.line.TheConstants.{STANDARD}
 use Rattle.lr_disk.specs.declared.disk.Disk.{Ghosts as DiskOf}
 use Rattle.lr_disk.specs.Disk.{Only}
@@ -18,7 +17,8 @@ use Rattle.lr_causes.specs.declared.cause.Party.TheVariants.{Disk, Output}
 use Rattle.lr_causes.specs.declared.cause.Refusal.TheVariants.{NotAShelf, Capacity, NotEmpty}
 use Rattle.lr_forms.specs.declared.forms.Input.TheVariants.{Symbols}
 use Rattle.lr_causes.specs.Causes.{IsEarlier}
-use Rattle.lr_causes.specs.Outside.{Outlets, OutletsOf, outlet_counts}
+use Rattle.lr_causes.specs.Outside.{Outlets, OutletsOf, TellOn, outlet_counts}
+use Rattle.lr_causes.specs.Puts.{PutFails, Puts}
 use Rattle.lr_causes.specs.Counts.{CountsTell}
 use Rattle.lr_cmd_receive.specs.First.{SourceBesides}
 use Rattle.lr_cmd_receive.specs.Inputs.{files_of_bytes}
@@ -26,7 +26,6 @@ use Rattle.lr_cmd_receive.specs.Noted.{placed_files}
 use Rattle.lr_cmd_receive.specs.Onto.{ChangesFor}
 use Rattle.lr_cmd_receive.specs.Receive.{receive_last}
 use Rattle.lr_shelf.specs.InitialShelves.{OfItems, StandsForPrefix, with_files}
-use Rattle.lr_cmd_receive.specs.Shelving.{GotText}
 
 -- how many bytes the shelf may have
 abbrev pub trial_capacity : ℕ
@@ -102,20 +101,14 @@ module _ {D : Type 0} (disk : DiskOf D) (symbols : List ℕ) where
 module _ {O : Type 0} (out : SinkOf O) (symbols : List ℕ) where
   -- what `out` got: the last line of `receive` alone, where the work is done
   abbrev pub OutEnds : Cause → O → O → Type 0
-  OutEnds Done o o' = GotText out (receive_last 0 (Symbols STANDARD) symbols End) o o'
-      × (out.faults o' ≡ out.faults o)
-  OutEnds (Failed Output) o o' =
-      out.tells o → PutsPart (receive_last 0 (Symbols STANDARD) symbols End)
-      (out.contents o) (out.contents o')
+  OutEnds Done o o' = Puts out (receive_last 0 (Symbols STANDARD) symbols End) o o'
+  OutEnds (Failed Output) o o' = PutFails out (receive_last 0 (Symbols STANDARD) symbols End) o o'
   OutEnds _ o o' = o' ≡ o
 
 module _ {D O : Type 0} (world : OutletsOf D O) (symbols : List ℕ) where
   pub record TrialRun (cause : Cause) (w w' : Outlets D O) : Type 0 where
     pub on_disk : LeavesDisk world.disk symbols cause w.disk w'.disk
     pub on_out : OutEnds world.out symbols cause w.out w'.out
-    pub told_by_disk : world.disk.tells w.disk → world.disk.tells w'.disk
-    pub untold_by_disk : world.disk.tells w'.disk → world.disk.tells w.disk
-    pub told_by_out : world.out.tells w.out → world.out.tells w'.out
-    pub untold_by_out : world.out.tells w'.out → world.out.tells w.out
+    pub tell : TellOn world w w'
     -- the first event decides, but a disk that fails as the shelf is taken away is told instead of want of memory
     pub first : CountsTell SourceBesides cause (outlet_counts world w) (outlet_counts world w')

@@ -1,5 +1,6 @@
 //! `receive`: the mission files of the input go onto the shelf.
 ghost use Rattle.std.specs.Prelude.{◌≡◌, ◌≤◌, ◌^◌, ℕ, [], IfOk, IfErr};
+ghost use Rattle.lr_bits.specs.Telling.{KeepsTelling};
 ghost use Rattle.lr_cmd_receive.specs.Shelved.{shelf_in};
 ghost use Rattle.lr_causes.specs.Outside.{outside, world_of, outlets_of};
 ghost use Rattle.lr_forms.specs.declared.forms.Input.{Input as Input'};
@@ -23,7 +24,7 @@ use lr_frame::{FrameWork, Hand};
 use lr_io::{Sink, Source};
 use lr_layers::Layers;
 use lr_reading::{ReadCounts, Reader};
-use lr_refusals::shelf_cause;
+use lr_refusals::shelf_answer;
 use lr_shelf::Shelf;
 use std::alloc::Global;
 use std::sync::Wait;
@@ -86,8 +87,7 @@ pub(crate) fn put_last<O: Sink>(
     sums: &ReceiveCounts,
     out: &mut O,
 ) -> Result<(), Cause>
-    ensures told { O.tells out.old → O.tells out.new }
-    ensures untold { O.tells out.new → O.tells out.old }
+    ensures tell { KeepsTelling (O.tells out.old) (O.tells out.new) }
     ensures put { IfOk result (λ _. PutsLast O.Sink sums.now out.old out.new) }
     ensures stopped { IfErr result (λ cause. LastStops O.Sink sums.now cause out.old out.new) }
 {
@@ -147,9 +147,9 @@ fn receive_with<
         → ReceiveRun (world_of S.Source D.Disk O.Sink) (receive_query mend input workers most) result
         (outside source.old disk.old out.old) (outside source.new disk.new out.new) }
 {
-    match Shelf::load(alloc, disk) {
+    match shelf_answer(Shelf::load(alloc, disk)) {
         Ok(mut shelf) => receive_onto(mend, &mut shelf, source, disk, out, read),
-        Err(error) => shelf_cause(error),
+        Err(refused) => refused,
     }
 }
 

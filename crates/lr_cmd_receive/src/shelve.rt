@@ -21,7 +21,7 @@ use lr_causes::{Cause, put_text};
 use lr_disk::Disk;
 use lr_io::Sink;
 use lr_layers::Layers;
-use lr_refusals::shelf_cause;
+use lr_refusals::shelf_answer;
 use lr_shelf::Shelf;
 
 /// Shelves one file: its line is composed, the file is appended, and then the line is put. The line tells the number of
@@ -44,8 +44,8 @@ fn shelve<D: Disk, O: Sink>(
     let alloc = shelf.allocator();
     let mut line = Bytes::new(alloc);
     noted_line(alloc, shelf.len(), &placed.file, fillers, &mut line)?;
-    match shelf.append(disk, placed) {
-        Err(error) => Err(shelf_cause(error)),
+    match shelf_answer(shelf.append(disk, placed)) {
+        Err(cause) => Err(cause),
         Ok(_) => put_text(line.as_slice(), out),
     }
 }

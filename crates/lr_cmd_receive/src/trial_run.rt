@@ -36,7 +36,7 @@ use lr_frame::{FrameWork, Hand};
 use lr_io::{Sink, Source, SureSink, SureSource};
 use lr_make::{Maker, put_bytes};
 use lr_reading::{ReadCounts, Reader};
-use lr_refusals::shelf_cause;
+use lr_refusals::shelf_answer;
 use lr_shelf::Shelf;
 use std::alloc::Global;
 use std::sync::Wait;
@@ -87,9 +87,9 @@ fn shelve_stream<
     ensures stopped { IfErr result (λ cause. StopsFilling D.Disk symbols.items cause
         disk.old disk.new) }
 {
-    let mut shelf = match Shelf::load(alloc, disk) {
+    let mut shelf = match shelf_answer(Shelf::load(alloc, disk)) {
         Ok(shelf) => shelf,
-        Err(error) => return Err(shelf_cause(error)),
+        Err(cause) => return Err(cause),
     };
     let mut source = SureSource::of(symbols);
     let mut lines = SureSink::new();
@@ -144,8 +144,8 @@ fn trial_with<
         Ok(symbols) => symbols,
         Err(NoMemory) => return Cause::NoMemory,
     };
-    match Shelf::init(disk, CAPACITY) {
-        Err(error) => shelf_cause(error),
+    match shelf_answer(Shelf::init(disk, CAPACITY)) {
+        Err(cause) => cause,
         Ok(()) => match fill(alloc, symbols, disk, out, read) {
             Cause::NoMemory => withdraw(disk),
             cause => cause,

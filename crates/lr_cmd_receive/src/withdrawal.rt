@@ -1,5 +1,6 @@
 //! A shelf on which nothing stands is taken away again.
 ghost use Rattle.std.specs.Prelude.{◌≡◌, ◌⊎◌, ◌<◌, ◌↔◌, [], List, IsTrue, IfOk, OnOk, length};
+ghost use Rattle.lr_bits.specs.Telling.{KeepsTelling};
 ghost use Rattle.lr_disk.specs.Disk.{Cut};
 ghost use Rattle.lr_disk.specs.Reads.{IsCall, OnlyReads};
 ghost use Rattle.lr_disk.specs.Pending.{EachImageSince, NothingPending};
@@ -66,8 +67,7 @@ pub(crate) fn withdraw<D: Disk>(disk: &mut D) -> Cause
     ensures kind { IsEarlier result }
     ensures first { CountsTell SourceBesides result (counts 0 (D.faults disk.old) 0)
         (counts 0 (D.faults disk.new) 0) }
-    ensures told { D.tells disk.old → D.tells disk.new }
-    ensures untold { D.tells disk.new → D.tells disk.old }
+    ensures tell { KeepsTelling (D.tells disk.old) (D.tells disk.new) }
     ensures ends { D.tells disk.old → (items : List Item)
         → IsDurable D.Disk trial_capacity items disk.old
         → result ≡ Cause.NoMemory → IsWithdrawn D.Disk items disk.new }

@@ -1,5 +1,5 @@
 -- What a call comes to that leads a pool through the entries of a shelf.
-use Rattle.std.proofs.Common.{◌≡◌, ◌<◌, List, ℕ, [], false, None, Result, Ok, Err, IfOk, IfErr, subst}
+use Rattle.std.proofs.Common.{◌≡◌, ◌<◌, List, ℕ, [], false, None, Result, Ok, Err, IfOk, IfErr, refl, subst}
 use Rattle.std.specs.VecDeque.{deque_capacity}
 use Rattle.lr_io.specs.declared.sink.Sink.{Ghosts as SinkOf}
 use Rattle.lr_disk.specs.declared.disk.Disk.{Ghosts as DiskOf}
@@ -11,7 +11,7 @@ use Rattle.lr_rounds.specs.declared.drive_fault.DriveFault.{DriveFault}
 use Rattle.lr_rounds.specs.declared.drive_fault.DriveFault.TheVariants.{NoMemory as Unpaid, Stopped}
 use Rattle.lr_cmd_render.specs.declared.sizes.TheConstants.{MOST_ENTRIES}
 use Rattle.lr_cmd_render.specs.Leading.{Stands, StopsFor, count_in, images_under_way, render_terms}
-use Rattle.lr_cmd_render.specs.Driven.{RenderComesTo}
+use Rattle.lr_cmd_render.specs.Driven.{RenderComesTo, driven_by}
 use Rattle.lr_cmd_render.specs.declared.render_source.RenderSource.{RenderSource}
 use Rattle.lr_cmd_render.proofs.Stopping.{begins, ends_well, stops_at_once}
 
@@ -26,21 +26,13 @@ module _ {D O : Type 0} (disk : DiskOf D) (out : SinkOf O)
   comes_to (Ok nothing) all stops = ends_well disk out only_now reads_none reads_on all
   comes_to (Err cause) all stops = stops
 
-module _ {D O : Type 0} (disk : DiskOf D) (out : SinkOf O)
-    (only_now : (x : D) (c : List ℕ) → disk.tells x → disk.left_since x (disk.moment x) c → disk.may_leave x c)
-    (reads_none : (x : D) → disk.only_read x x)
-    {start now : RenderSource D O} where
-  pub comes_to_stop : (why : DriveFault Cause) (cause : Cause) → why ≡ Stopped cause
-      → IsDriveFault (render_terms disk out) why start start now → StopsFor disk out start cause now
-  comes_to_stop why cause is undriven =
-      subst (λ (u : DriveFault Cause). IsDriveFault (render_terms disk out) u start start now) is undriven
-
-  pub comes_to_no_memory : (why : DriveFault Cause) → why ≡ Unpaid
-      → IsDriveFault (render_terms disk out) why start start now
-      → StopsFor disk out start NoMemory now
-  comes_to_no_memory why is undriven =
-      stops_at_once disk out only_now reads_none start now
-      (subst (λ (u : DriveFault Cause). IsDriveFault (render_terms disk out) u start start now) is undriven)
+  pub comes_by : (answer : Result (Unit {0}) (DriveFault Cause))
+      → IfOk answer (λ nothing. EndsWell (render_terms disk out) start now)
+      → IfErr answer (λ why. IsDriveFault (render_terms disk out) why start start now)
+      → RenderComesTo disk out (driven_by answer) start now
+  comes_by (Ok nothing) all undriven = ends_well disk out only_now reads_none reads_on all
+  comes_by (Err (Stopped cause)) all undriven = undriven
+  comes_by (Err Unpaid) all undriven = stops_at_once disk out only_now reads_none start now undriven
 
 -- nothing was read
 module _ {D O : Type 0} (disk : DiskOf D) (out : SinkOf O)

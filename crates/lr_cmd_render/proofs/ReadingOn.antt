@@ -3,6 +3,7 @@ use Rattle.std.proofs.Common.{◌≡◌, ◌<◌, ◌≤◌, ◌+◌, ℕ}
 use Rattle.std.proofs.Common.{Some, None, Err, List, [], ◌∷◌, ◌++◌, length, refl, sym, ap, ◌∙◌}
 use Rattle.std.proofs.Common.{subst, arith, length-append}
 use Rattle.std.specs.VecDeque.{deque_capacity}
+use Rattle.lr_bits.proofs.Telling.{tells_both}
 use Rattle.lr_io.specs.declared.sink.Sink.{Ghosts as SinkOf}
 use Rattle.lr_disk.specs.declared.disk.Disk.{Ghosts as DiskOf}
 use Rattle.lr_disk.proofs.Moments.{only_read_joined}
@@ -51,7 +52,7 @@ module _ {D O : Type 0} (disk : DiskOf D) (out : SinkOf O) where
     found_at_start found a there t =
         subst (λ (b : List ℕ). found b way a) (goes.reads.only_read.unwritten t).contents
         (subst (λ (k : KeptShelf). found (disk.contents before.disk.now) k.way a) goes.reads.kept
-        (there (goes.reads.told t)))
+        (there (goes.reads.tell.told t)))
 
     module _ (now : RenderSource D O) (disk_name : now.disk.ghost_name ≡ before.disk.ghost_name)
         (out_name : now.out.ghost_name ≡ before.out.ghost_name) (out_is : now.out.now ≡ before.out.now)
@@ -61,9 +62,8 @@ module _ {D O : Type 0} (disk : DiskOf D) (out : SinkOf O) where
       reads_more : OnlyReadsDisk disk out start now
       reads_more = record {
         kept = only.kept ∙ goes.reads.kept;
-        told = λ t. only.told (goes.reads.told t);
-        untold = λ t. goes.reads.untold (only.untold t);
-        only_read = only_read_joined disk reads_on d before.disk.now now.disk.now goes.reads.told
+        tell = tells_both goes.reads.tell only.tell;
+        only_read = only_read_joined disk reads_on d before.disk.now now.disk.now goes.reads.tell.told
             goes.reads.only_read only.only_read;
         faults = faults_are ∙ goes.reads.faults;
       }
@@ -108,7 +108,7 @@ module _ {D O : Type 0} (disk : DiskOf D) (out : SinkOf O) where
 
         pub reads_content : (content : Content)
             → IsContent disk (way_of_source before) before.next before.disk.now content
-                → IsContentTaken content before now
+            → IsContentTaken content before now
             → AllGiven (images_under_way before) → RenderGoes disk out (led start jobs kept) now
         reads_content Gone gone taken given =
             reads_one next_is none there Vacant

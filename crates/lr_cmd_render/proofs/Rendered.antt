@@ -31,7 +31,7 @@ looked_image bytes entry opened None is looked seen = absurd looked
 
 text_of : (bytes : List ℕ) (way : Way) (number : ℕ) (read : List EntryView) (seen : EntryView) (text : List ℕ)
     → IsSeen (λ stored. true) bytes (entry_at way number) (Some seen)
-    → render_query.entry_text read number seen ≡ Ok text → IsTextOf bytes (entry_at way number) text
+    → render_query.fate read number seen ≡ Ok text → IsTextOf bytes (entry_at way number) text
 text_of bytes way number read (Whole opened) text seen fate =
     subst (IsTextOf bytes (entry_at way number))
     (ok_is (Ok (image_text opened.image)) (image_text opened.image) text refl fate)

@@ -4,6 +4,7 @@ use Rattle.std.proofs.Common.{Result, Ok, Err, List, [], ◌∷◌, ◌++◌, le
 use Rattle.std.proofs.Common.{append-nil}
 use Rattle.std.proofs.lemmas.List.Sums.{sum_by_push}
 use Rattle.lr_bits.specs.File.{File}
+use Rattle.lr_bits.proofs.Telling.{tells_still}
 use Rattle.lr_io.specs.declared.sink.Sink.{Ghosts as SinkOf}
 use Rattle.lr_disk.specs.declared.disk.Disk.{Ghosts as DiskOf}
 use Rattle.lr_image.specs.Picture.{Picture}
@@ -87,7 +88,7 @@ module _ {D O : Type 0} (disk : DiskOf D) (out : SinkOf O) (start : RenderSource
 
   nothing_put : (o : O) → Puts out [] o o
   nothing_put o =
-      record { told = λ t. t; untold = λ t. t; put = λ t. sym (append-nil (out.contents o)); kept = refl }
+      record { tell = tells_still; put = λ t. sym (append-nil (out.contents o)); kept = refl }
 
   module _ (number : ℕ) (more : number < count_in start) (o : O) where
     vacant : (rest : List Ahead) (tally : Tally) → Settles disk out start (settled_to (Vacant ∷ rest) tally number) o

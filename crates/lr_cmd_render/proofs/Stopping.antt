@@ -6,6 +6,7 @@ use Rattle.std.proofs.lemmas.List.{drop_all}
 use Rattle.std.specs.VecDeque.{deque_capacity}
 use Rattle.lr_bits.specs.File.{File}
 use Rattle.lr_bits.specs.Faults.{Rose}
+use Rattle.lr_bits.proofs.Telling.{tells_still}
 use Rattle.lr_io.specs.declared.sink.Sink.{Ghosts as SinkOf}
 use Rattle.lr_disk.specs.Reads.{IsOnlyRead}
 use Rattle.lr_disk.specs.declared.disk.Disk.{Ghosts as DiskOf}
@@ -79,8 +80,8 @@ module _ {D O : Type 0} (disk : DiskOf D) (out : SinkOf O) where
         → now.shelf ≡ before.shelf → 0 < length (images_under_way before) → StopsFor disk out start NoMemory now
     memory_stops now disk_is out_is shelf_is some =
         let reads = reads_on disk out goes now disk_is shelf_is in
-        stops_with now (ap (λ (r : _). r.ghost_name) disk_is) (ap (λ (r : _). r.ghost_name) out_is) reads.told
-        reads.untold reads.only_read goes.ahead before.tally goes.settled before.out.now
+        stops_with now (ap (λ (r : _). r.ghost_name) disk_is) (ap (λ (r : _). r.ghost_name) out_is) reads.tell.told
+        reads.tell.untold reads.only_read goes.ahead before.tally goes.settled before.out.now
         (settled_less disk out goes some) goes.settles NoMemory (ap (λ (r : _). r.now) out_is)
         (quiet_counts disk out NoMemory start.disk.now now.disk.now before.out.now now.out.now tt reads.faults
         (ap (λ (r : _). out.faults r.now) out_is))
@@ -95,7 +96,7 @@ module _ {D O : Type 0} (disk : DiskOf D) (out : SinkOf O) where
         let reads = reads_on disk out goes now disk_is shelf_is in
         let opened = opened_with first.stored stops.outcome in
         let fate = Ok (image_text (Some stops.outcome)) in
-        stops_with now (ap (λ (r : _). r.ghost_name) disk_is) out_name reads.told reads.untold reads.only_read
+        stops_with now (ap (λ (r : _). r.ghost_name) disk_is) out_name reads.tell.told reads.tell.untold reads.only_read
         (Pending first.stored ∷ first.rest) before.tally first.number before.out.now
         (first_there disk out goes plan mid same takes) first.settles cause
         (stops_seen disk out render_query (way_of_source start) first.settles.read first.number start.disk.now
@@ -112,9 +113,9 @@ module _ {D O : Type 0} (disk : DiskOf D) (out : SinkOf O) where
         → ReadStops disk (way_of_source before) before.next cause before.disk.now now.disk.now
         → StopsFor disk out start cause now
     read_stops now disk_name out_is only there cause other stops =
-        stops_with now disk_name (ap (λ (r : _). r.ghost_name) out_is) (λ t. only.told (goes.reads.told t))
-        (λ t. goes.reads.untold (only.untold t))
-        (only_read_joined disk reads_then start.disk.now before.disk.now now.disk.now goes.reads.told
+        stops_with now disk_name (ap (λ (r : _). r.ghost_name) out_is) (λ t. only.tell.told (goes.reads.tell.told t))
+        (λ t. goes.reads.tell.untold (only.tell.untold t))
+        (only_read_joined disk reads_then start.disk.now before.disk.now now.disk.now goes.reads.tell.told
         goes.reads.only_read only.only_read)
         goes.ahead before.tally goes.settled before.out.now (omega (arith, goes.reached, there)) goes.settles cause
         (stays cause other stops) (counted cause other stops)
@@ -169,7 +170,8 @@ module _ {D O : Type 0} (disk : DiskOf D) (out : SinkOf O) where
         let waits : RefusalMayWait disk (way_of_source start) start.disk.now before.next (Some refusal) =
         subst (RefusalMayWait disk (way_of_source start) start.disk.now before.next) is goes.refusal in
         let so = settles_all none in
-        stops_with before refl refl goes.reads.told goes.reads.untold goes.reads.only_read [] before.tally before.next
+        stops_with before refl refl goes.reads.tell.told goes.reads.tell.untold goes.reads.only_read []
+        before.tally before.next
         before.out.now waits.0 so (Refused refusal)
         (record { seen = waits.1.seen; stands = waits.1.stands; stops = (waits.1.fate so.read, refl) })
         (quiet_counts disk out (Refused refusal) start.disk.now before.disk.now before.out.now before.out.now tt
@@ -188,15 +190,15 @@ module _ {D O : Type 0} (disk : DiskOf D) (out : SinkOf O) where
         omega (arith, so.gathered.skipped) in
         last_taken disk out render_query (way_of_source start) start.disk.now start.out.now
         (record { from = 0; to = count_in start }) refl (IsTally [] before.tally) before.next before.disk.now
-        before.out.now before.out.now so goes.reads.told goes.reads.untold goes.reads.only_read goes.reads.faults
+        before.out.now before.out.now so goes.reads.tell.told goes.reads.tell.untold goes.reads.only_read
+        goes.reads.faults
         goes.inside
         (subst (λ (n : ℕ). n ≤ before.next) (count_is disk out goes) all)
         (record {
           text = [];
           is = refl;
           puts = record {
-            told = λ t. t;
-            untold = λ t. t;
+            tell = tells_still;
             put = λ t. sym (append-nil (out.contents before.out.now));
             kept = refl;
           };
@@ -243,8 +245,7 @@ module _ {D O : Type 0} (disk : DiskOf D) (out : SinkOf O) where
       may = may;
       reads = record {
         kept = refl;
-        told = λ t. t;
-        untold = λ t. t;
+        tell = tells_still;
         only_read = only_read_yet disk only_now source.disk.now (reads_none source.disk.now);
         faults = refl;
       };
@@ -286,10 +287,8 @@ module _ {D O : Type 0} (disk : DiskOf D) (out : SinkOf O) where
     may = tt;
     counted = quiet_counts disk out NoMemory d d o o tt refl refl;
     tell = record {
-      told_by_disk = λ t. t;
-      untold_by_disk = λ t. t;
-      told_by_out = λ t. t;
-      untold_by_out = λ t. t;
+      by_disk = tells_still;
+      by_out = tells_still;
     };
     only_read = only_read_yet disk only_now d (reads_none d);
     got = λ t. record {

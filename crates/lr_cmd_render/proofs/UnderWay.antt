@@ -154,8 +154,10 @@ module _ {D O : Type 0} (disk : DiskOf D) (out : SinkOf O) where
         → OnlyReadsDisk disk out start now
     reads_on now disk_is shelf_is = record {
       kept = ap kept_by shelf_is ∙ goes.reads.kept;
-      told = λ t. subst (λ (r : _). disk.tells r.now) (sym disk_is) (goes.reads.told t);
-      untold = λ t. goes.reads.untold (subst (λ (r : _). disk.tells r.now) disk_is t);
+      tell = record {
+        told = λ t. subst (λ (r : _). disk.tells r.now) (sym disk_is) (goes.reads.tell.told t);
+        untold = λ t. goes.reads.tell.untold (subst (λ (r : _). disk.tells r.now) disk_is t);
+      };
       only_read = subst (λ (r : _). IsOnlyRead disk d r.now) (sym disk_is) goes.reads.only_read;
       faults = ap (λ (r : _). disk.faults r.now) disk_is ∙ goes.reads.faults;
     }

@@ -5,13 +5,21 @@ use denote.Ref.{MutBor}
 use Rattle.lr_io.specs.declared.sink.Sink.{Ghosts as SinkOf}
 use Rattle.lr_disk.specs.declared.disk.Disk.{Ghosts as DiskOf}
 use Rattle.lr_causes.specs.declared.cause.Cause.{Cause}
-use Rattle.lr_causes.specs.declared.cause.Cause.TheVariants.{DoneWith}
+use Rattle.lr_causes.specs.declared.cause.Cause.TheVariants.{DoneWith, NoMemory}
 use Rattle.lr_causes.specs.declared.note.Note.TheVariants.{Rendered}
 use Rattle.lr_rounds.specs.JobSources.{led}
+use Rattle.lr_rounds.specs.declared.drive_fault.DriveFault.{DriveFault}
+use Rattle.lr_rounds.specs.declared.drive_fault.DriveFault.TheVariants.{NoMemory as Unpaid, Stopped}
 use Rattle.lr_rounds.specs.WorkerPools.{PoolView}
 use Rattle.lr_cmd_render.specs.Leading.{Stands, StopsFor}
 use Rattle.lr_cmd_render.specs.declared.render_source.RenderSource.{RenderSource}
 use Rattle.lr_cmd_render.specs.declared.queue.Queue.{Queue}
+
+-- what a drive of the pool comes to
+abbrev pub driven_by : Result (Unit {0}) (DriveFault Cause) → Result (Unit {0}) Cause
+driven_by (Ok nothing) = Ok nothing
+driven_by (Err (Stopped cause)) = Err cause
+driven_by (Err Unpaid) = Err NoMemory
 
 -- no image is under way, and there is room for some
 pub record IsFreshQueue (queue : Queue) : Type 0 where

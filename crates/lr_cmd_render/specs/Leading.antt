@@ -4,6 +4,7 @@ use Rattle.std.specs.Prelude.{List, [], ◌∷◌}
 use Rattle.std.specs.Prelude.{◌++◌, length, drop}
 use Rattle.std.specs.VecDeque.{deque_capacity}
 use Rattle.lr_bits.specs.File.{File}
+use Rattle.lr_bits.specs.Telling.{KeepsTelling}
 use Rattle.lr_io.specs.declared.sink.Sink.{Ghosts as SinkOf}
 use Rattle.lr_disk.specs.Reads.{IsOnlyRead}
 use Rattle.lr_disk.specs.declared.disk.Disk.{Ghosts as DiskOf}
@@ -177,8 +178,7 @@ module _ {D O : Type 0} (disk : DiskOf D) (out : SinkOf O) where
   -- the shelf is as it was, and the disk was only read
   pub record OnlyReadsDisk (start now : RenderSource D O) : Type 0 where
     pub kept : kept_by now.shelf ≡ kept_by start.shelf
-    pub told : disk.tells start.disk.now → disk.tells now.disk.now
-    pub untold : disk.tells now.disk.now → disk.tells start.disk.now
+    pub tell : KeepsTelling (disk.tells start.disk.now) (disk.tells now.disk.now)
     pub only_read : IsOnlyRead disk start.disk.now now.disk.now
     pub faults : disk.faults now.disk.now ≡ disk.faults start.disk.now
 
@@ -186,7 +186,7 @@ module _ {D O : Type 0} (disk : DiskOf D) (out : SinkOf O) where
   abbrev pub Settles : RenderSource D O → Settled → O → Type 0
   Settles start so_far o =
       SoFar (outlets_of disk out) (entries_run render_query (way_of_source start)
-          (record { from = 0; to = count_in start })
+      (record { from = 0; to = count_in start })
       (IsTally so_far.ahead so_far.tally)) (outlets start.disk.now start.out.now) so_far.number o
 
   -- the job source was the first one, has given the jobs led, and kept what came of those kept

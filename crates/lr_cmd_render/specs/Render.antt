@@ -28,10 +28,10 @@ abbrev pub render_files_query : FileQuery
 render_files_query = record {
   range = all_entries;
   looks = λ stored. true;
-  entry_text = λ read number opened. Ok (image_text opened.image);
+  fate = λ read number opened. Ok (image_text opened.image);
   gone = λ number. no_text;
   last = λ way read. no_text;
-  tells = λ read. Some (Rendered (images_in read) (skipped_in read));
+  note = λ read. Some (Rendered (images_in read) (skipped_in read));
 }
 
 abbrev pub render_query : Query

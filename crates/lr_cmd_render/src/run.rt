@@ -10,7 +10,7 @@ ghost use Rattle.lr_cmd_render.specs.Render.{render_query};
 ghost use Rattle.lr_cmd_render.specs.Rendered.{Renders};
 ghost use Rattle.lr_cmd_shelf.specs.Runs.{RunsOn, RunsOver};
 ghost use Rattle.lr_cmd_render.specs.Leading.{Stands};
-ghost use Rattle.lr_cmd_render.specs.Driven.{RenderComesTo, IsFreshQueue, Drives, MayDrive};
+ghost use Rattle.lr_cmd_render.specs.Driven.{RenderComesTo, IsFreshQueue, Drives, MayDrive, driven_by};
 
 use crate::queue::Queue;
 use crate::render_source::RenderSource;
@@ -21,7 +21,7 @@ use lr_causes::{Cause, Note};
 use lr_disk::Disk;
 use lr_gatecore::MOST_SEATS;
 use lr_io::Sink;
-use lr_refusals::shelf_cause;
+use lr_refusals::shelf_answer;
 use lr_render::RenderWork;
 use lr_rounds::{DriveFault, WorkerPool, drive, drive_alone};
 use lr_shelf::Shelf;
@@ -62,6 +62,17 @@ fn go_alone<D: Disk, O: Sink>(
     drive_alone(pool, entries)
 }
 
+/// What a drive of the pool comes to. So want of memory comes of that drive's alone.
+fn driven(answer: Result<(), DriveFault<Cause>>) -> Result<(), Cause>
+    ensures { result ≡ driven_by answer }
+{
+    match answer {
+        Ok(()) => Ok(()),
+        Err(DriveFault::Stopped(cause)) => Err(cause),
+        Err(DriveFault::NoMemory) => Err(Cause::NoMemory),
+    }
+}
+
 /// Leads all of the pool through the entries.
 fn go_by_all<R: Threads + Wait + Sync, D: Disk, O: Sink>(
     rt: &R,
@@ -71,11 +82,7 @@ fn go_by_all<R: Threads + Wait + Sync, D: Disk, O: Sink>(
     requires { Stands D.Disk O.Sink (led entries.old [] 0) entries.old }
     ensures { RenderComesTo D.Disk O.Sink result entries.old entries.new }
 {
-    match drive(rt, pool, entries) {
-        Ok(()) => Ok(()),
-        Err(DriveFault::Stopped(cause)) => Err(cause),
-        Err(DriveFault::NoMemory) => Err(Cause::NoMemory),
-    }
+    driven(drive(rt, pool, entries))
 }
 
 /// Puts the images of a shelf that was loaded, as the call `go` leads the pool.
@@ -144,9 +151,9 @@ fn render_with<
         Ok(parts) => parts,
         Err(error) => return Cause::from(error),
     };
-    let shelf = match Shelf::load(alloc, disk) {
+    let shelf = match shelf_answer(Shelf::load(alloc, disk)) {
         Ok(shelf) => shelf,
-        Err(error) => return shelf_cause(error),
+        Err(cause) => return cause,
     };
     render_entries(alloc, parts, shelf, disk, out, go)
 }

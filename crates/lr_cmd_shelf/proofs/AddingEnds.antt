@@ -2,6 +2,7 @@
 use Rattle.std.proofs.Common.{◌≡◌, ◌<◌, inl, inr, ℕ, Result, Ok, Err, IfErr, OnOk, List, []}
 use Rattle.std.proofs.Common.{◌∷◌, ◌++◌, ◌+◌, ◌-◌, take, drop, min, refl, ap, ◌∙◌, sym, subst}
 use Rattle.lr_bits.specs.Sizes.{most_u64}
+use Rattle.lr_bits.proofs.Telling.{tells_still}
 use Rattle.lr_io.specs.declared.sink.Sink.{Ghosts as SinkOf}
 use Rattle.lr_disk.specs.Reads.{IsOnlyRead, IsUnwritten}
 use Rattle.lr_disk.specs.declared.disk.Disk.{Ghosts as DiskOf}
@@ -94,10 +95,8 @@ module _ {D O : Type 0} (disk : DiskOf D) (out : SinkOf O) (query : AdditionQuer
       may = tt;
       counted = counted;
       tell = record {
-        told_by_disk = told;
-        untold_by_disk = untold;
-        told_by_out = λ t. t;
-        untold_by_out = λ t. t;
+        by_disk = record { told = told; untold = untold };
+        by_out = tells_still;
       };
       leaves = inl (record { silent = refl; only_read = only_read });
       refused = λ refusal same t. cc (same);
@@ -111,10 +110,8 @@ module _ {D O : Type 0} (disk : DiskOf D) (out : SinkOf O) (query : AdditionQuer
       may = tt;
       counted = counted;
       tell = record {
-        told_by_disk = told;
-        untold_by_disk = untold;
-        told_by_out = λ t. t;
-        untold_by_out = λ t. t;
+        by_disk = record { told = told; untold = untold };
+        by_out = tells_still;
       };
       leaves = record { silent = refl; only_read = only_read };
       refused = λ refusal same t. cc (same);
@@ -133,10 +130,8 @@ module _ {D O : Type 0} (disk : DiskOf D) (out : SinkOf O) (query : AdditionQuer
       may = may;
       counted = quiet_counts disk out (Refused refusal) d d' o o tt count refl;
       tell = record {
-        told_by_disk = told;
-        untold_by_disk = untold;
-        told_by_out = λ t. t;
-        untold_by_out = λ t. t;
+        by_disk = record { told = told; untold = untold };
+        by_out = tells_still;
       };
       leaves = record { silent = refl; only_read = only_read };
       refused = λ r same t.
@@ -163,10 +158,10 @@ module _ {D O : Type 0} (disk : DiskOf D) (out : SinkOf O) (query : AdditionQuer
         by_error : (e : ShelfError) → result ≡ Err e → IsLoadRefusal disk d e
             → RunsAdding (outlets_of disk out) query (cause_of e) (outlets d o) (outlets d' o)
         by_error Disk' same refusal =
-            earlier_run d d' o loads.calls.told loads.calls.untold loads.only_read (Failed Disk) tt
+            earlier_run d d' o loads.calls.tell.told loads.calls.tell.untold loads.only_read (Failed Disk) tt
             (disk_counts disk out d d' o o (counted Disk' same).1 refl)
         by_error (NotAShelf' at) same refusal =
-            refused_run d d' o loads.calls.told loads.calls.untold loads.only_read (NotAShelf at) tt
+            refused_run d d' o loads.calls.tell.told loads.calls.tell.untold loads.only_read (NotAShelf at) tt
             (counted (NotAShelf' at) same)
             (λ t. inl (at, refusal t, refl))
         by_error (NotEmpty' size) same refusal = absurd refusal
@@ -174,7 +169,7 @@ module _ {D O : Type 0} (disk : DiskOf D) (out : SinkOf O) (query : AdditionQuer
         by_error (NoSuchFile' count) same refusal = absurd refusal
         by_error (Crc' stored computed) same refusal = absurd refusal
         by_error NoMemory' same refusal =
-            earlier_run d d' o loads.calls.told loads.calls.untold loads.only_read NoMemory tt
+            earlier_run d d' o loads.calls.tell.told loads.calls.tell.untold loads.only_read NoMemory tt
             (quiet_counts disk out NoMemory d d' o o tt (counted NoMemory' same) refl)
         by_error Failed' same refusal = absurd refusal
         by_error Discarded' same refusal = absurd refusal
@@ -230,7 +225,7 @@ module _ {D O : Type 0} (disk : DiskOf D) (out : SinkOf O) (query : AdditionQuer
         (way_still way d d1 (ready.only_read.unwritten t) is_way only)
         (weaker disk.moment disk.left_since d1 d2 (HasEitherWay there addition.item)
         (HasWayOrOneMore query (disk.contents d) way) to
-        (adding.on_way.any_moment (ready.told t) (ready.keeps t) (ready.synced t))) where
+        (adding.on_way.any_moment (ready.tell.told t) (ready.keeps t) (ready.synced t))) where
           same : there ≡ way
           same = one_way query once (disk.contents d) there way (way_is t) is_way
 
@@ -255,8 +250,8 @@ module _ {D O : Type 0} (disk : DiskOf D) (out : SinkOf O) (query : AdditionQuer
         (bytes_still way d d1 (ready.only_read.unwritten t) only)
         (weaker disk.moment disk.left_since d1 d2 AreBoth (AreSameOrOneMore query (disk.contents d) way) to
         (both disk.moment disk.left_since d1 d2 Outside Within
-        (adding.outside_any_moment (ready.told t) (ready.synced t))
-        (adding.on_way.bytes_any_moment (ready.told t) (ready.keeps t) (ready.synced t)))) where
+        (adding.outside_any_moment (ready.tell.told t) (ready.synced t))
+        (adding.on_way.bytes_any_moment (ready.tell.told t) (ready.keeps t) (ready.synced t)))) where
           same : there ≡ way
           same = one_way query once (disk.contents d) there way (way_is t) is_way
 
@@ -328,10 +323,8 @@ module _ {D O : Type 0} (disk : DiskOf D) (out : SinkOf O) (query : AdditionQuer
           (subst (λ (r : Result A ShelfError). IsFaultCounted (disk.faults d1) (disk.faults d2) r) is
           adding.calls.counted));
       tell = record {
-        told_by_disk = told_both;
-        untold_by_disk = untold_both;
-        told_by_out = λ t. t;
-        untold_by_out = λ t. t;
+        by_disk = record { told = told_both; untold = untold_both };
+        by_out = tells_still;
       };
       leaves = inr (
         refl,
@@ -343,8 +336,8 @@ module _ {D O : Type 0} (disk : DiskOf D) (out : SinkOf O) (query : AdditionQuer
               subst (λ (w : Way). MayEndWith (outlets_of disk out).disk addition.item w d d2)
               (one_way query once (disk.contents d) there way (way_is t) is_way)
               (record {
-                has = adding.on_way.either (ready.told t) (ready.keeps t);
-                outside = outside_here (disk.contents d2) t (adding.outside (ready.told t));
+                has = adding.on_way.either (ready.tell.told t) (ready.keeps t);
+                outside = outside_here (disk.contents d2) t (adding.outside (ready.tell.told t));
               });
           stands = λ capacity items t durable.
               adding.on_items.either capacity items (ready.settled capacity items t durable);
@@ -373,7 +366,7 @@ module _ {D O : Type 0} (disk : DiskOf D) (out : SinkOf O) (query : AdditionQuer
       way_after t =
           subst (λ (k : KeptShelf). IsWay (disk.contents d2) k.way)
           (on_ok (kept_by shelf2 ≡ kept_with addition.item (kept_by shelf)) adding.kept)
-          (on_ok (KeepsWay (disk.contents d2) shelf2) (adding.on_way.way (ready.told t) (ready.keeps t)))
+          (on_ok (KeepsWay (disk.contents d2) shelf2) (adding.on_way.way (ready.tell.told t) (ready.keeps t)))
 
       abbrev ItemStands : List ℕ → Type 0
       ItemStands c =
@@ -392,9 +385,9 @@ module _ {D O : Type 0} (disk : DiskOf D) (out : SinkOf O) (query : AdditionQuer
             (one_way query once (disk.contents d) there way (way_is t) is_way)
             (record {
               has = way_after t;
-              outside = outside_here (disk.contents d2) t (adding.outside (ready.told t));
-              stands = on_ok (ItemStands (disk.contents d2)) (adding.stands (ready.told t));
-              durable = on_ok (NothingPending disk d2) (adding.durable (ready.told t));
+              outside = outside_here (disk.contents d2) t (adding.outside (ready.tell.told t));
+              stands = on_ok (ItemStands (disk.contents d2)) (adding.stands (ready.tell.told t));
+              durable = on_ok (NothingPending disk d2) (adding.durable (ready.tell.told t));
             });
         stands = λ capacity items t durable.
             (on_ok (IsSettled disk capacity (items ++ addition.item ∷ []) shelf2 d2)
@@ -408,10 +401,8 @@ module _ {D O : Type 0} (disk : DiskOf D) (out : SinkOf O) (query : AdditionQuer
         may = tt;
         counted = quiet_counts disk out Done d d2 o o2 tt count_both puts.kept;
         tell = record {
-          told_by_disk = told_both;
-          untold_by_disk = untold_both;
-          told_by_out = puts.told;
-          untold_by_out = puts.untold;
+          by_disk = record { told = told_both; untold = untold_both };
+          by_out = puts.tell;
         };
         leaves = adds_item (Puts out) o2 puts;
         refused = λ r same t. cc (same);
@@ -429,10 +420,8 @@ module _ {D O : Type 0} (disk : DiskOf D) (out : SinkOf O) (query : AdditionQuer
         may = tt;
         counted = out_counts disk out d d2 o o2 fails.rose count_both;
         tell = record {
-          told_by_disk = told_both;
-          untold_by_disk = untold_both;
-          told_by_out = fails.told;
-          untold_by_out = fails.untold;
+          by_disk = record { told = told_both; untold = untold_both };
+          by_out = fails.tell;
         };
         leaves = adds_item (PutFails out) o2 fails;
         refused = λ r same t. cc (same);

@@ -42,21 +42,20 @@ module _ {D : Type 0} (disk : DiskOf D) where
       (d d1 d2 : D) (old new : Shelf) (number : ℕ) (result : Result Stored ShelfError)
       (ready : IsReady disk d d1 old) (gets : Gets disk number (shelf_on old d1) (shelf_on new d2) result) where
     abbrev since : disk.tells d → IsUnwritten disk d1 d2
-    since t = gets.reads.only_read.unwritten (ready.told t)
+    since t = gets.reads.only_read.unwritten (ready.tell.told t)
 
     pub only_read_got : IsOnlyRead disk d d2
-    only_read_got = only_read_joined disk reads_on d d1 d2 ready.told ready.only_read gets.reads.only_read
+    only_read_got = only_read_joined disk reads_on d d1 d2 ready.tell.told ready.only_read gets.reads.only_read
 
     pub told_got : disk.tells d → disk.tells d2
-    told_got t = gets.reads.calls.told (ready.told t)
+    told_got t = gets.reads.calls.tell.told (ready.tell.told t)
 
     pub untold_got : disk.tells d2 → disk.tells d
-    untold_got t = ready.untold (gets.reads.calls.untold t)
+    untold_got t = ready.tell.untold (gets.reads.calls.tell.untold t)
 
     pub ready_got : (stored : Stored) → result ≡ Ok stored → IsReady disk d d2 new
     ready_got stored is = record {
-      told = told_got;
-      untold = untold_got;
+      tell = record { told = told_got; untold = untold_got };
       only_read = only_read_got;
       count =
           subst (λ (r : Result Stored ShelfError). IsFaultCounted (disk.faults d1) (disk.faults d2) r) is
@@ -88,10 +87,10 @@ module _ {D : Type 0} (disk : DiskOf D) where
   module _ {A : Type 0} (d d1 d2 : D) (shelf shelf2 : Shelf) (item : Item) (ready : IsReady disk d d1 shelf)
       (answer : Result A ShelfError) (adding : Adds disk item (shelf_on shelf d1) (shelf_on shelf2 d2) answer) where
     pub told_through : disk.tells d → disk.tells d2
-    told_through t = adding.calls.told (ready.told t)
+    told_through t = adding.calls.tell.told (ready.tell.told t)
 
     pub untold_through : disk.tells d2 → disk.tells d
-    untold_through t = ready.untold (adding.calls.untold t)
+    untold_through t = ready.tell.untold (adding.calls.tell.untold t)
 
     -- it was refused, and nothing was written
     module _ (error : ShelfError) (is : answer ≡ Err error) (not_disk : error ≡ Disk' → ⊥) where

@@ -49,8 +49,8 @@ module _ (query : Query) (bytes : List ℕ) (way : Way) where
   from_is (suc left) number read one other (inl a) (inl b) =
       let same = some_is a.seen b.seen
       (seen_once query.looks bytes (entry_at way number) (Some a.seen) (Some b.seen) a.stands b.stands) in
-      let text = ok_is (query.entry_text read number b.seen) a.text b.text
-      (ap (query.entry_text read number) (sym same) ∙ a.fate) b.fate in
+      let text = ok_is (query.fate read number b.seen) a.text b.text
+      (ap (query.fate read number) (sym same) ∙ a.fate) b.fate in
       let rest = from_is left (number + 1) (read ++ b.seen ∷ []) a.rest b.rest
       (subst (λ (f : EntryView). AnswersFrom (query_over query bytes way) left (number + 1) (read ++ f ∷ []) a.rest)
       same a.after)
@@ -99,8 +99,8 @@ module _ (query : Query) (bytes : List ℕ) (way : Way) where
   front_from (suc passed) (suc left) number read begun answer few none (inl a) (inl b) =
       let same = some_is a.seen b.seen
       (seen_once query.looks bytes (entry_at way number) (Some a.seen) (Some b.seen) a.stands b.stands) in
-      let text = ok_is (query.entry_text read number b.seen) a.text b.text
-      (ap (query.entry_text read number) (sym same) ∙ a.fate) b.fate in
+      let text = ok_is (query.fate read number b.seen) a.text b.text
+      (ap (query.fate read number) (sym same) ∙ a.fate) b.fate in
       let more = front_from passed left (number + 1) (read ++ b.seen ∷ []) a.rest b.rest (omega (arith, few))
       (ap (λ (x : Answer). x.refusal) (sym a.is) ∙ none)
       (subst (λ (f : EntryView). AnswersFrom (query_over (without_last query) bytes way) passed (number + 1)
@@ -157,18 +157,18 @@ module _ (query : Query) (bytes : List ℕ) (way : Way) (from : ℕ) where
       -- one entry more
       pub reaches_more : (seen : EntryView) → IsSeen query.looks bytes (entry_at way number) (Some seen)
           → (one : List ℕ)
-          → query.entry_text read number seen ≡ Ok one
+          → query.fate read number seen ≡ Ok one
           → ReachesEntry (query_over query bytes way) from (number + 1) (read ++ seen ∷ []) (text ++ one)
       reaches_more seen stands one fate = record {
         on = λ last tells to inside rest is.
             let left : to - number ≡ suc (to - (number + 1)) = omega (arith, inside) in
             let whole = then_rest one rest in
-            subst (AnswersFrom (query_over (record query { last = last; tells = tells }) bytes way) (to - from) from
+            subst (AnswersFrom (query_over (record query { last = last; note = tells }) bytes way) (to - from) from
             [])
             (together one rest)
             (reaches.on last tells to (omega (arith, inside)) whole
             (subst
-            (λ n. AnswersFrom (query_over (record query { last = last; tells = tells }) bytes way) n number read whole)
+            (λ n. AnswersFrom (query_over (record query { last = last; note = tells }) bytes way) n number read whole)
             (sym left)
             (inl (record {
               seen = seen;
@@ -190,7 +190,7 @@ module _ (query : Query) (bytes : List ℕ) (way : Way) (from : ℕ) where
           subst
           (λ (t : List ℕ). AnswersFrom (query_over query bytes way) (to - from) from []
           (refused_answer t refusal)) (append-nil text)
-          (reaches.on query.last query.tells to (omega (arith, more)) (refused_answer [] refusal)
+          (reaches.on query.last query.note to (omega (arith, more)) (refused_answer [] refusal)
           (subst (λ n. AnswersFrom (query_over query bytes way) n number read (refused_answer [] refusal)) (sym left)
           (inr (record { seen = seen; refusal = refusal; stands = stands; fate = fate; is = refl }))))
 
@@ -210,10 +210,10 @@ module _ (query : Query) (bytes : List ℕ) (way : Way) (from : ℕ) where
       pub ends_here : (to : ℕ) → number ≤ to → to ≤ number → (last : Result (List ℕ) Refusal)
           → query.last way read ≡ last
           → AnswersFrom (query_over query bytes way) (to - from) from []
-          (then_rest text (answer_of last (query.tells read)))
+          (then_rest text (answer_of last (query.note read)))
       ends_here to inside all last is =
           let none : to - number ≡ 0 = omega (arith, all) in
-          reaches.on query.last query.tells to (omega (arith, inside)) (answer_of last (query.tells read))
-          (subst (λ n. AnswersFrom (query_over query bytes way) n number read (answer_of last (query.tells read)))
+          reaches.on query.last query.note to (omega (arith, inside)) (answer_of last (query.note read))
+          (subst (λ n. AnswersFrom (query_over query bytes way) n number read (answer_of last (query.note read)))
           (sym none)
-          (ap (λ (l : Result (List ℕ) Refusal). answer_of l (query.tells read)) (sym is)))
+          (ap (λ (l : Result (List ℕ) Refusal). answer_of l (query.note read)) (sym is)))

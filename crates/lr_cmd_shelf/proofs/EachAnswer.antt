@@ -71,7 +71,7 @@ module _ (query : Query) (bytes : List ℕ) (fit : All (λ byte. byte < 256) byt
         )
 
     answers_from : (left number : ℕ) (read : List EntryView) → From left number read
-    answers_from zero number read = (answer_of (query.last way read) (query.tells read), refl)
+    answers_from zero number read = (answer_of (query.last way read) (query.note read), refl)
     answers_from (suc left) number read =
         let there = seen_there query.looks bytes (entry_at way number) fit in
         from_entry left number read (λ seen. answers_from left (number + 1) (read ++ seen ∷ [])) there.0 there.1

@@ -97,7 +97,7 @@ module _ {D O : Type 0} (disk : DiskOf D) (out : SinkOf O) (kept : KeptShelf) (n
   -- what is refused at an entry by every command, or else by what was found there
   pub get_stops : (query : Query) (read : List EntryView) (d' : D) (o : O) (error : ShelfError)
       → ((stored computed : ℕ) → error ≡ Crc' stored computed
-      → query.entry_text read number (Wrong stored computed) ≡ Err BadChecksum)
+      → query.fate read number (Wrong stored computed) ≡ Err BadChecksum)
       → (error ≡ Discarded' → ⊥) → IsGetRefusal disk kept number d error
       → EntryStops (outlets_of disk out) (standing_at query kept.way read number) (cause_of error) (outlets d o)
       (outlets d' o)
@@ -128,7 +128,7 @@ module _ {D O : Type 0} (disk : DiskOf D) (out : SinkOf O) (kept : KeptShelf) (n
     module _ (opened : Opened) (finds : Finds disk (entry_of kept number) d (Some (Sound opened.stored)))
         (looked : IsLooked (query.looks opened.stored) opened.stored.file opened.image) where
       pub takes_file : (gathers : List Opened → Type 0)
-          → PutsText out (query.entry_text (files_of read) number opened) o o'
+          → PutsText out (query.fate (files_of read) number opened) o o'
           → gathers (files_of read ++ opened ∷ [])
           → TakesEntry (outlets_of disk out) (standing_at (query_of_files query) kept.way read number)
           (λ read'. gathers (files_of read')) (outlets d o) (outlets d' o')
@@ -139,7 +139,7 @@ module _ {D O : Type 0} (disk : DiskOf D) (out : SinkOf O) (kept : KeptShelf) (n
         gathered = subst gathers (sym (files_of-whole read opened)) gathered;
       }
 
-      pub stops_file : (cause : Cause) → TextStops out (query.entry_text (files_of read) number opened) cause o o'
+      pub stops_file : (cause : Cause) → TextStops out (query.fate (files_of read) number opened) cause o o'
           → EntryStops (outlets_of disk out) (standing_at (query_of_files query) kept.way read number) cause
           (outlets d o)
           (outlets d' o')

@@ -2,6 +2,7 @@
 use Rattle.std.proofs.Common.{◌≡◌, ◌⊎◌, ◌+◌, ◌<◌, inl, inr, ℕ, Option, Some, None, Result, Ok, Err}
 use Rattle.std.proofs.Common.{IfOk, List, [], ◌++◌, length, refl, arith, ap, ◌∙◌, sym, subst}
 use Rattle.std.proofs.Common.{append-nil, length-append}
+use Rattle.lr_bits.proofs.Telling.{tells_both, tells_still}
 use Rattle.lr_io.specs.declared.sink.Sink.{Ghosts as SinkOf}
 use Rattle.lr_disk.specs.declared.disk.Disk.{Ghosts as DiskOf}
 use Rattle.lr_disk.proofs.Moments.{only_read_joined, only_read_yet}
@@ -106,10 +107,8 @@ module _ {D O : Type 0} (disk : DiskOf D) (out : SinkOf O) (query : Query) where
     may = tt;
     counted = quiet_counts disk out NoMemory d d o o tt refl refl;
     tell = record {
-      told_by_disk = λ t. t;
-      untold_by_disk = λ t. t;
-      told_by_out = λ t. t;
-      untold_by_out = λ t. t;
+      by_disk = tells_still;
+      by_out = tells_still;
     };
     only_read = only_read_yet disk only_now d none;
     got = λ t. nothing_yet (disk.contents d) o;
@@ -132,10 +131,8 @@ module _ {D O : Type 0} (disk : DiskOf D) (out : SinkOf O) (query : Query) where
       may = tt;
       counted = disk_counts disk out d d1 o o (counted_load Disk' is).1 refl;
       tell = record {
-        told_by_disk = loads.calls.told;
-        untold_by_disk = loads.calls.untold;
-        told_by_out = λ t. t;
-        untold_by_out = λ t. t;
+        by_disk = loads.calls.tell;
+        by_out = tells_still;
       };
       only_read = loads.only_read;
       got = λ t. nothing (disk.contents d) o;
@@ -147,10 +144,8 @@ module _ {D O : Type 0} (disk : DiskOf D) (out : SinkOf O) (query : Query) where
       counted =
           quiet_counts disk out (Refused (NotAShelf at)) d d1 o o tt (counted_load (NotAShelf' at) is) refl;
       tell = record {
-        told_by_disk = loads.calls.told;
-        untold_by_disk = loads.calls.untold;
-        told_by_out = λ t. t;
-        untold_by_out = λ t. t;
+        by_disk = loads.calls.tell;
+        by_out = tells_still;
       };
       only_read = loads.only_read;
       got = λ t. record {
@@ -174,10 +169,8 @@ module _ {D O : Type 0} (disk : DiskOf D) (out : SinkOf O) (query : Query) where
       may = tt;
       counted = quiet_counts disk out NoMemory d d1 o o tt (counted_load NoMemory' is) refl;
       tell = record {
-        told_by_disk = loads.calls.told;
-        untold_by_disk = loads.calls.untold;
-        told_by_out = λ t. t;
-        untold_by_out = λ t. t;
+        by_disk = loads.calls.tell;
+        by_out = tells_still;
       };
       only_read = loads.only_read;
       got = λ t. nothing_yet (disk.contents d) o;
@@ -276,17 +269,15 @@ module _ {D O : Type 0} (disk : DiskOf D) (out : SinkOf O) (query : Query) where
             (outlet_counts (outlets_of disk out) (outlets d2 o')))
             (same_counts disk out d d1 o o counted_ok refl) runs.counted;
         tell = record {
-          told_by_disk = λ t. runs.tell.told_by_disk (loads.calls.told t);
-          untold_by_disk = λ t. loads.calls.untold (runs.tell.untold_by_disk t);
-          told_by_out = runs.tell.told_by_out;
-          untold_by_out = runs.tell.untold_by_out;
+          by_disk = tells_both loads.calls.tell runs.tell.by_disk;
+          by_out = runs.tell.by_out;
         };
-        only_read = only_read_joined disk reads_on d d1 d2 loads.calls.told loads.only_read runs.only_read;
+        only_read = only_read_joined disk reads_on d d1 d2 loads.calls.tell.told loads.only_read runs.only_read;
         got = λ t.
             got_all t cause o'
             (subst
             (λ (b : List ℕ). Got out (allowed_on (query_on query (kept_by shelf).way) b)
-            cause o o') (loads.only_read.unwritten t).contents (runs.got (loads.calls.told t)));
+            cause o o') (loads.only_read.unwritten t).contents (runs.got (loads.calls.tell.told t)));
         untouched = runs.untouched;
         put = runs.put;
       }

@@ -45,7 +45,7 @@ module _ {D : Type 0} (disk : DiskOf D) (d : D) (query : Query) (way : Way) (fro
       (seen : EntryView)
       (text : List ℕ)
       (stands : disk.tells d → IsSeen query.looks (disk.contents d) (entry_at way (from + length read)) (Some seen))
-      (fate : query.entry_text read (from + length read) seen ≡ Ok text) where
+      (fate : query.fate read (from + length read) seen ≡ Ok text) where
     abbrev all : List EntryView
     all = read ++ seen ∷ []
 
@@ -63,10 +63,10 @@ module _ {D : Type 0} (disk : DiskOf D) (d : D) (query : Query) (way : Way) (fro
     ]
 
     become_more : (i : ℕ) (one : EntryView) → slice_get all i ≡ Some one
-        → query.entry_text (take i all) (from + i) one ≡ Ok (get_or (texts ++ text ∷ []) i [])
+        → query.fate (take i all) (from + i) one ≡ Ok (get_or (texts ++ text ∷ []) i [])
     become_more i one is = elim (cases_lt i (length read)) [
       | inl less ↦
-          ap (λ (r : List EntryView). query.entry_text r (from + i) one)
+          ap (λ (r : List EntryView). query.fate r (from + i) one)
           (take-append-le i read (seen ∷ []) (omega (arith, less)))
           ∙ are.become i one (sym (get_before read (seen ∷ []) i less) ∙ is)
           ∙ ap (λ (t : List ℕ). Ok t)
@@ -81,9 +81,9 @@ module _ {D : Type 0} (disk : DiskOf D) (d : D) (query : Query) (way : Way) (fro
           let last : get_or (texts ++ text ∷ []) i [] ≡ text =
           ap (λ (k : ℕ). get_or (texts ++ text ∷ []) k []) (sym here ∙ sym are.count)
           ∙ get_or-append_seam texts text [] [] in
-          ap (λ (r : List EntryView). query.entry_text r (from + i) one) front
-          ∙ ap (λ (k : ℕ). query.entry_text read (from + k) one) (sym here)
-          ∙ ap (query.entry_text read (from + length read)) (sym same) ∙ fate ∙ ap (λ (t : List ℕ). Ok t) (sym last)
+          ap (λ (r : List EntryView). query.fate r (from + i) one) front
+          ∙ ap (λ (k : ℕ). query.fate read (from + k) one) (sym here)
+          ∙ ap (query.fate read (from + length read)) (sym same) ∙ fate ∙ ap (λ (t : List ℕ). Ok t) (sym last)
     ]
 
     pub one_more_seen : AreSeen disk d (entries_seen query way from all) (texts ++ text ∷ [])

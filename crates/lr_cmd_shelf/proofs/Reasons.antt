@@ -25,9 +25,10 @@ use Rattle.lr_cmd_shelf.specs.Queries.{refused_answer, query_over}
 use Rattle.lr_cmd_shelf.specs.Export.{export_query}
 use Rattle.lr_cmd_shelf.specs.Extract.{extract_query}
 use Rattle.lr_refusals.specs.Errors.{image_fault}
-use Rattle.lr_cmd_shelf.specs.Files.{one_entry, refused_for}
+use Rattle.lr_cmd_shelf.specs.declared.opened.Opened.{Opened}
+use Rattle.lr_cmd_shelf.specs.Files.{one_entry, query_of_files, query_of_one, refused_for}
 use Rattle.lr_cmd_shelf.specs.Laws.{HasReasons, ExtractHasReasons, HasExportReasons, ExportHasReasons, SaysWhy}
-use Rattle.lr_cmd_shelf.specs.Laws.{OneFilePutsOneText, VerifyHasReasons}
+use Rattle.lr_cmd_shelf.specs.Laws.{HasFirstReasons, OneFilePutsOneText, VerifyHasReasons}
 use Rattle.lr_cmd_shelf.specs.Verify.{none_bad, verdict, verify_query}
 use Rattle.lr_cmd_shelf.proofs.Answering.{err_is, some_is, some_or_none}
 use Rattle.lr_cmd_shelf.proofs.Verifying.{none_bad-absent, none_bad-whole, none_bad-wrong}
@@ -95,9 +96,9 @@ module _ (query : Query) (number : ℕ) (ranges : (count : ℕ) → query.range 
     )
 
     -- its text is the only one
-    put_one : ((read : List EntryView) → answer_of (query.last way read) (query.tells read) ≡ done_answer [] None)
+    put_one : ((read : List EntryView) → answer_of (query.last way read) (query.note read) ≡ done_answer [] None)
         → (seen : EntryView) → IsSeen query.looks bytes (entry_at way number) (Some seen) → (text : List ℕ)
-        → query.entry_text [] number seen ≡ Ok text → IsAnswer query bytes (done_answer text None)
+        → query.fate [] number seen ≡ Ok text → IsAnswer query bytes (done_answer text None)
     put_one nothing seen stands text fate =
         one_entry_is (done_answer text None)
         (inl (record {
@@ -109,6 +110,26 @@ module _ (query : Query) (number : ℕ) (ranges : (count : ℕ) → query.range 
           after = sym (nothing ([] ++ seen ∷ []));
           is = ap (λ (l : List ℕ). done_answer l None) (sym (append-nil text));
         }))
+
+-- what a command on a file's number refuses before it sees the file
+module _ (number : ℕ) (bytes : List ℕ) (way : Way) (is : IsWay bytes way) (looks : Bool)
+    (fate : ℕ → Opened → Result (List ℕ) Refusal) where
+  abbrev asked : Query
+  asked = query_of_files (query_of_one looks fate number)
+
+  ranges_are : (count : ℕ) → asked.range count ≡ one_entry number count
+  ranges_are count = refl
+
+  first_reasons : HasFirstReasons asked number bytes way
+  first_reasons = record {
+    no_file = none_there asked number ranges_are bytes way is;
+    gone = λ there gone.
+        stopped asked number ranges_are bytes way is there (Some Absent) Discarded gone refl;
+    no_record = λ there none.
+        stopped asked number ranges_are bytes way is there None (NotAShelf (entry_at way number).gate) none refl;
+    bad = λ there stored computed found.
+        stopped asked number ranges_are bytes way is there (Some (Wrong stored computed)) BadChecksum found refl;
+  }
 
 -- ---- `extract`
 
@@ -139,15 +160,7 @@ module _ (number : ℕ) (bytes : List ℕ) (way : Way) (is : IsWay bytes way) wh
 
   reasons : HasReasons number bytes way
   reasons = record {
-    no_file = none_there (extract_query number) number one bytes way is;
-    gone = λ there gone.
-        stopped (extract_query number) number one bytes way is there (Some Absent) Discarded gone refl;
-    no_record = λ there none.
-        stopped (extract_query number) number one bytes way is there None (NotAShelf (entry_at way number).gate) none
-        refl;
-    bad = λ there stored computed found.
-        stopped (extract_query number) number one bytes way is there (Some (Wrong stored computed)) BadChecksum found
-        refl;
+    first = first_reasons number bytes way is false _;
     sound = λ there stored stands.
         put_one (extract_query number) number one bytes way is there (λ read. refl) (plain stored) (stands, tt)
         (proper_of stored.file) refl;
@@ -160,7 +173,7 @@ pub has_reasons : ExtractHasReasons
 has_reasons number bytes way is = reasons number bytes way is
 
 pub one_file_puts_one_text : OneFilePutsOneText
-one_file_puts_one_text looks entry_text number = record {
+one_file_puts_one_text looks fate number = record {
   one = λ count range allowed. range_of number _ range allowed;
   nothing_last = λ way read. refl;
 }
@@ -190,15 +203,7 @@ module _ (number : ℕ) (bytes : List ℕ) (way : Way) (is : IsWay bytes way) wh
 
   export_reasons : HasExportReasons number bytes way
   export_reasons = record {
-    no_file = none_there (export_query number) number once bytes way is;
-    gone = λ there gone.
-        stopped (export_query number) number once bytes way is there (Some Absent) Discarded gone refl;
-    no_record = λ there none.
-        stopped (export_query number) number once bytes way is there None (NotAShelf (entry_at way number).gate) none
-        refl;
-    bad = λ there stored computed found.
-        stopped (export_query number) number once bytes way is there (Some (Wrong stored computed)) BadChecksum found
-        refl;
+    first = first_reasons number bytes way is true _;
     fault = faulty;
     image = pictured;
   }

@@ -171,7 +171,7 @@ module _ {D O : Type 0} (disk : DiskOf D) (out : SinkOf O) (number block : ℕ) 
         → IsFound (disk.contents d) (entry_at there number) found
     found_here found finds t =
         subst (λ (l : List ℕ). IsFound l (entry_at there number) found) (ready.only_read.unwritten t).contents
-        (finds (ready.told t))
+        (finds (ready.tell.told t))
 
     counted_at : (error : ShelfError) → result ≡ Err error
         → IsFaultCounted {A = Stored} (disk.faults d1) (disk.faults d2) (Err error)

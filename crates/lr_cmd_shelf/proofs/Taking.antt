@@ -2,6 +2,7 @@
 use Rattle.std.proofs.Common.{◌≡◌, inl, inr, ℕ, ◌+◌, ◌-◌, ◌<◌, ◌≤◌, Option, Some, None, Result, Ok}
 use Rattle.std.proofs.Common.{Err, List, [], ◌∷◌, ◌++◌, length, refl, arith, ap, ◌∙◌, sym, subst}
 use Rattle.std.proofs.Common.{append-nil, append_assoc, length-append}
+use Rattle.lr_bits.proofs.Telling.{tells_both, tells_still}
 use Rattle.lr_io.specs.declared.sink.Sink.{Ghosts as SinkOf}
 use Rattle.lr_io.specs.Pieces.{PutsPart}
 use Rattle.lr_disk.specs.Reads.{IsOnlyRead}
@@ -44,8 +45,7 @@ module _ {D O : Type 0} (disk : DiskOf D) (out : SinkOf O) (query : Query) (way 
     few = omega arith;
     after = omega arith;
     puts = record {
-      told = λ t. t;
-      untold = λ t. t;
+      tell = tells_still;
       put = λ t. sym (append-nil (out.contents o));
       kept = refl;
     };
@@ -122,10 +122,9 @@ module _ {D O : Type 0} (disk : DiskOf D) (out : SinkOf O) (query : Query) (way 
         few = omega (arith, so.few, length-append so.read (takes.seen ∷ []));
         after = omega (arith, so.after);
         puts = record {
-          told = λ t. takes.puts.puts.told (so.puts.told t);
-          untold = λ t. so.puts.untold (takes.puts.puts.untold t);
+          tell = tells_both so.puts.tell takes.puts.puts.tell;
           put = λ t.
-              takes.puts.puts.put (so.puts.told t) ∙ ap (λ (l : List ℕ). l ++ takes.puts.text) (so.puts.put t)
+              takes.puts.puts.put (so.puts.tell.told t) ∙ ap (λ (l : List ℕ). l ++ takes.puts.text) (so.puts.put t)
               ∙ append_assoc (out.contents o) so.text takes.puts.text;
           kept = takes.puts.puts.kept ∙ so.puts.kept;
         };
@@ -143,7 +142,7 @@ module _ {D O : Type 0} (disk : DiskOf D) (out : SinkOf O) (query : Query) (way 
             one_more_seen disk d query way range.from so.read so.texts so.seen takes.seen takes.puts.text
             (λ t. subst (λ n. IsSeen query.looks (disk.contents d) (entry_at way n) (Some takes.seen)) here
             (at_start (Some takes.seen) takes.stands t))
-            (subst (λ n. query.entry_text so.read n takes.seen ≡ Ok takes.puts.text) here takes.puts.is);
+            (subst (λ n. query.fate so.read n takes.seen ≡ Ok takes.puts.text) here takes.puts.is);
       }
 
       module _ (allowed : query.range (length way.entries) ≡ Some range) (t : disk.tells d) where
@@ -167,7 +166,7 @@ module _ {D O : Type 0} (disk : DiskOf D) (out : SinkOf O) (query : Query) (way 
             texts =
                 let passed : number + 1 - range.from ≡ number - range.from + 1 = omega (arith, so.after) in
                 subst
-                (λ n. AnswersFrom (query_over (record query { last = λ w r. Ok []; tells = λ r. None })
+                (λ n. AnswersFrom (query_over (record query { last = λ w r. Ok []; note = λ r. None })
                 (disk.contents d) way) n
                 range.from [] (done_answer (so.text ++ cuts.text) None)) passed
                 (begun_before query (disk.contents d) way range.from (number + 1) (so.read ++ seen ∷ [])
@@ -178,7 +177,7 @@ module _ {D O : Type 0} (disk : DiskOf D) (out : SinkOf O) (query : Query) (way 
           some = cuts.some;
           part = λ told_out.
               subst (λ (l : List ℕ). PutsPart cuts.text l (out.contents o2)) (so.puts.put told_out)
-              (cuts.fails.part (so.puts.told told_out));
+              (cuts.fails.part (so.puts.tell.told told_out));
         }
 
         pub entry_got : (d2 : D) (cause : Cause)
@@ -202,20 +201,20 @@ module _ {D O : Type 0} (disk : DiskOf D) (out : SinkOf O) (query : Query) (way 
         (allowed : query.range (length way.entries) ≡ Some range) (t : disk.tells d) where
       last_from : (last : Result (List ℕ) Refusal) → query.last way so.read ≡ last
           → AnswersFrom (query_over query (disk.contents d) way) (range.to - range.from) range.from []
-          (then_rest so.text (answer_of last (query.tells so.read)))
+          (then_rest so.text (answer_of last (query.note so.read)))
       last_from last is =
           ends_here query (disk.contents d) way range.from number so.read so.text (so.reaches t) range.to inside all
           last is
 
       pub last_put : PutsText out (query.last way so.read) o1 o2
           → PutsAll out (record { answer = (MayAnswer t allowed); begin = (MayBegin t allowed) })
-          (query.tells so.read) o o2
+          (query.note so.read) o o2
       last_put puts = record {
         text = so.text ++ puts.text;
-        is = onto t allowed (then_rest so.text (answer_of (Ok puts.text) (query.tells so.read)))
+        is = onto t allowed (then_rest so.text (answer_of (Ok puts.text) (query.note so.read)))
             (last_from (Ok puts.text) puts.is);
         put = λ told_out.
-            puts.puts.put (so.puts.told told_out) ∙ ap (λ (l : List ℕ). l ++ puts.text) (so.puts.put told_out)
+            puts.puts.put (so.puts.tell.told told_out) ∙ ap (λ (l : List ℕ). l ++ puts.text) (so.puts.put told_out)
             ∙ append_assoc (out.contents o) so.text puts.text;
       }
 
@@ -233,14 +232,14 @@ module _ {D O : Type 0} (disk : DiskOf D) (out : SinkOf O) (query : Query) (way 
         begun = begun_so t allowed 0 (omega (arith, inside));
         next =
             inr (
-              query.tells so.read,
-              onto t allowed (then_rest so.text (answer_of (Ok stops.text) (query.tells so.read)))
+              query.note so.read,
+              onto t allowed (then_rest so.text (answer_of (Ok stops.text) (query.note so.read)))
                   (last_from (Ok stops.text) stops.is),
             );
         some = stops.some;
         part = λ told_out.
             subst (λ (l : List ℕ). PutsPart stops.text l (out.contents o2)) (so.puts.put told_out)
-            (stops.fails.part (so.puts.told told_out));
+            (stops.fails.part (so.puts.tell.told told_out));
       }
       last_got NoMemory stops = first_put t allowed 0 (omega (arith, inside)) stops
       last_got (Refused refusal) stops =
@@ -284,10 +283,8 @@ module _ {D O : Type 0} (disk : DiskOf D) (out : SinkOf O) (query : Query) (way 
     may = by_count count none refl;
     counted = quiet_counts disk out (Refused (NoSuchFile count)) d d o o tt refl refl;
     tell = record {
-      told_by_disk = λ t. t;
-      untold_by_disk = λ t. t;
-      told_by_out = λ t. t;
-      untold_by_out = λ t. t;
+      by_disk = tells_still;
+      by_out = tells_still;
     };
     only_read = only_read_yet disk only_now d no_call;
     got = λ t. record {
@@ -334,12 +331,13 @@ module _ {D O : Type 0} (disk : DiskOf D) (out : SinkOf O) (query : Query) (way 
           (outlet_counts (outlets_of disk out) (outlets d2 o2))) same_here
           counted;
       tell = record {
-        told_by_disk = λ t. told2 (told t);
-        untold_by_disk = λ t. untold (untold2 t);
-        told_by_out = λ t.
-            entry_told disk out query way so.read number d1 d2 o1 o2 cause stops (so.puts.told t);
-        untold_by_out = λ t.
-            so.puts.untold (entry_untold disk out query way so.read number d1 d2 o1 o2 cause stops t);
+        by_disk = record { told = λ t. told2 (told t); untold = λ t. untold (untold2 t) };
+        by_out = record {
+          told = λ t.
+              entry_told disk out query way so.read number d1 d2 o1 o2 cause stops (so.puts.tell.told t);
+          untold = λ t.
+              so.puts.tell.untold (entry_untold disk out query way so.read number d1 d2 o1 o2 cause stops t);
+        };
       };
       only_read = only_read_joined disk reads_on d d1 d2 told reads entry_reads;
       got = λ t.
@@ -355,7 +353,7 @@ module _ {D O : Type 0} (disk : DiskOf D) (out : SinkOf O) (query : Query) (way 
     -- the last text was put, and this is told beside it
     module _ (inside : number ≤ range.to) (all : range.to ≤ number)
         (puts : PutsText out (query.last way so.read) o1 o2) where
-      put_so : (t : disk.tells d) → (noted : Option Note) → noted ≡ query.tells so.read
+      put_so : (t : disk.tells d) → (noted : Option Note) → noted ≡ query.note so.read
           → PutsAll out (allowed_on (query_on query way) (disk.contents d)) noted o o2
       put_so t noted is =
           subst
@@ -365,7 +363,7 @@ module _ {D O : Type 0} (disk : DiskOf D) (out : SinkOf O) (query : Query) (way 
       seen_so : out.tells o → (text : List ℕ) × (out.contents o2 ≡ out.contents o ++ text) × PutsSeen query text
       seen_so told_out = (
         so.text ++ puts.text,
-        puts.puts.put (so.puts.told told_out) ∙ ap (λ (l : List ℕ). l ++ puts.text) (so.puts.put told_out)
+        puts.puts.put (so.puts.tell.told told_out) ∙ ap (λ (l : List ℕ). l ++ puts.text) (so.puts.put told_out)
             ∙ append_assoc (out.contents o) so.text puts.text,
         record {
           way = way;
@@ -382,20 +380,18 @@ module _ {D O : Type 0} (disk : DiskOf D) (out : SinkOf O) (query : Query) (way 
         },
       )
 
-      done_with_so : (told_note : Option Note) → told_note ≡ query.tells so.read → IsDoneWith query told_note
+      done_with_so : (told_note : Option Note) → told_note ≡ query.note so.read → IsDoneWith query told_note
       done_with_so told_note is =
-          record { way = way; read = so.read; text = puts.text; last = puts.is; tells = sym is }
+          record { way = way; read = so.read; text = puts.text; last = puts.is; note = sym is }
 
-      pub last_taken : (note : Option Note) → note ≡ query.tells so.read
+      pub last_taken : (note : Option Note) → note ≡ query.note so.read
           → RunsOn (outlets_of disk out) (query_on query way) (done_with note) (outlets d o) (outlets d1 o2)
       last_taken None is = record {
         may = done_with_so None is;
         counted = quiet_counts disk out Done d d1 o o2 tt count (puts.puts.kept ∙ so.puts.kept);
         tell = record {
-          told_by_disk = told;
-          untold_by_disk = untold;
-          told_by_out = λ t. puts.puts.told (so.puts.told t);
-          untold_by_out = λ t. so.puts.untold (puts.puts.untold t);
+          by_disk = record { told = told; untold = untold };
+          by_out = tells_both so.puts.tell puts.puts.tell;
         };
         only_read = reads;
         got = λ t. put_so t None is;
@@ -406,10 +402,8 @@ module _ {D O : Type 0} (disk : DiskOf D) (out : SinkOf O) (query : Query) (way 
         may = done_with_so (Some note) is;
         counted = quiet_counts disk out (DoneWith note) d d1 o o2 tt count (puts.puts.kept ∙ so.puts.kept);
         tell = record {
-          told_by_disk = told;
-          untold_by_disk = untold;
-          told_by_out = λ t. puts.puts.told (so.puts.told t);
-          untold_by_out = λ t. so.puts.untold (puts.puts.untold t);
+          by_disk = record { told = told; untold = untold };
+          by_out = tells_both so.puts.tell puts.puts.tell;
         };
         only_read = reads;
         got = λ t. put_so t (Some note) is;
@@ -423,7 +417,7 @@ module _ {D O : Type 0} (disk : DiskOf D) (out : SinkOf O) (query : Query) (way 
           × HasGathered disk d (query_on query way) gather put
       gathered_all gather value knows told_out = (
         so.text ++ puts.text,
-        puts.puts.put (so.puts.told told_out) ∙ ap (λ (l : List ℕ). l ++ puts.text) (so.puts.put told_out)
+        puts.puts.put (so.puts.tell.told told_out) ∙ ap (λ (l : List ℕ). l ++ puts.text) (so.puts.put told_out)
             ∙ append_assoc (out.contents o) so.text puts.text,
         record {
           range = range;
@@ -452,10 +446,11 @@ module _ {D O : Type 0} (disk : DiskOf D) (out : SinkOf O) (query : Query) (way 
           same_here
           (text_counted disk out (query.last way so.read) d1 d1 o1 o2 refl cause stops);
       tell = record {
-        told_by_disk = told;
-        untold_by_disk = untold;
-        told_by_out = λ t. text_told disk out (query.last way so.read) o1 o2 cause stops (so.puts.told t);
-        untold_by_out = λ t. so.puts.untold (text_untold disk out (query.last way so.read) o1 o2 cause stops t);
+        by_disk = record { told = told; untold = untold };
+        by_out = record {
+          told = λ t. text_told disk out (query.last way so.read) o1 o2 cause stops (so.puts.tell.told t);
+          untold = λ t. so.puts.tell.untold (text_untold disk out (query.last way so.read) o1 o2 cause stops t);
+        };
       };
       only_read = reads;
       got = λ t. last_got disk out query way range d o gathers number o1 o2 so inside all allowed t cause stops;

@@ -104,7 +104,7 @@ module _ {D O : Type 0} (disk : DiskOf D) (out : SinkOf O) where
   -- a sink still tells what it holds
   pub text_told : (fate : Result (List ℕ) Refusal) (o o' : O) (cause : Cause) → TextStops out fate cause o o'
       → out.tells o → out.tells o'
-  text_told fate o o' (Failed Output) stops t = stops.fails.told t
+  text_told fate o o' (Failed Output) stops t = stops.fails.tell.told t
   text_told fate o o' NoMemory stops t = subst (λ (x : O). out.tells x) (sym stops) t
   text_told fate o o' (Refused refusal) stops t = subst (λ (x : O). out.tells x) (sym stops.1) t
   text_told fate o o' _ stops t = absurd stops
@@ -112,7 +112,7 @@ module _ {D O : Type 0} (disk : DiskOf D) (out : SinkOf O) where
   -- and one that doesn't tell it after didn't before
   pub text_untold : (fate : Result (List ℕ) Refusal) (o o' : O) (cause : Cause) → TextStops out fate cause o o'
       → out.tells o' → out.tells o
-  text_untold fate o o' (Failed Output) stops t = stops.fails.untold t
+  text_untold fate o o' (Failed Output) stops t = stops.fails.tell.untold t
   text_untold fate o o' NoMemory stops t = subst (λ (x : O). out.tells x) stops t
   text_untold fate o o' (Refused refusal) stops t = subst (λ (x : O). out.tells x) stops.1 t
   text_untold fate o o' _ stops t = absurd stops
@@ -167,7 +167,7 @@ module _ {D O : Type 0} (disk : DiskOf D) (out : SinkOf O) where
         → out.tells o
         → out.tells o'
     entry_told (Failed Disk) stops t = subst (λ (x : O). out.tells x) (sym stops) t
-    entry_told (Failed Output) stops t = stops.stops.fails.told t
+    entry_told (Failed Output) stops t = stops.stops.fails.tell.told t
     entry_told NoMemory stops t = subst (λ (x : O). out.tells x) (sym stops) t
     entry_told (Refused refusal) stops t = subst (λ (x : O). out.tells x) (sym stops.stops.1) t
     entry_told Done stops t = absurd stops.stops
@@ -180,7 +180,7 @@ module _ {D O : Type 0} (disk : DiskOf D) (out : SinkOf O) where
         → out.tells o'
         → out.tells o
     entry_untold (Failed Disk) stops t = subst (λ (x : O). out.tells x) stops t
-    entry_untold (Failed Output) stops t = stops.stops.fails.untold t
+    entry_untold (Failed Output) stops t = stops.stops.fails.tell.untold t
     entry_untold NoMemory stops t = subst (λ (x : O). out.tells x) stops t
     entry_untold (Refused refusal) stops t = subst (λ (x : O). out.tells x) stops.stops.1 t
     entry_untold Done stops t = absurd stops.stops

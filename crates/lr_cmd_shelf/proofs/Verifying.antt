@@ -1,5 +1,6 @@
 -- What `check` answers, as a line of `verify`.
-use Rattle.std.proofs.Common.{◌≡◌, ℕ, Bool, false, Some, None, Ok, List, [], ◌∷◌, ◌++◌, refl, ◌∙◌, sym}
+use Rattle.std.proofs.Common.{◌≡◌, ℕ, Bool, false, Some, None, Result, Ok, Err, List, [], ◌∷◌, ◌++◌}
+use Rattle.std.proofs.Common.{refl, ap, ◌∙◌, sym, subst}
 use Rattle.lr_io.specs.declared.sink.Sink.{Ghosts as SinkOf}
 use Rattle.lr_disk.specs.declared.disk.Disk.{Ghosts as DiskOf}
 use Rattle.lr_shelf.specs.Asked.{entry_of}
@@ -18,7 +19,11 @@ use Rattle.lr_catalog.specs.Discards.{gone_line}
 use Rattle.lr_catalog.specs.Files.{check_line}
 use Rattle.lr_causes.specs.Outside.{outlets, outlets_of}
 use Rattle.lr_causes.specs.declared.cause.Cause.{Cause}
+use Rattle.lr_refusals.specs.Errors.{cause_of}
 use Rattle.lr_cmd_shelf.specs.declared.opened.Opened.{Opened}
+use Rattle.lr_cmd_shelf.specs.declared.verify.Finding.{Finding}
+use Rattle.lr_cmd_shelf.specs.declared.verify.Finding.TheVariants.{Right, Wrong as Wrong', Gone}
+use Rattle.lr_cmd_shelf.specs.Comparing.{IsCompared}
 use Rattle.lr_cmd_shelf.specs.Queries.{EntryView, Whole, Wrong, Absent, plain}
 use Rattle.lr_cmd_shelf.specs.Steps.{PutsText, TextStops, TakesEntry, EntryStops, standing_at}
 use Rattle.lr_cmd_shelf.specs.Verify.{none_bad, verify_query}
@@ -42,6 +47,31 @@ none_bad-wrong [] stored computed = refl
 none_bad-wrong (Whole first ∷ read) stored computed = none_bad-wrong read stored computed
 none_bad-wrong (Wrong s c ∷ read) stored computed = refl
 none_bad-wrong (Absent ∷ read) stored computed = none_bad-wrong read stored computed
+
+-- ---- what `check` answered, by what was found
+
+pub of_right : (answer : Result (Unit {0}) ShelfError) (found : Finding) → found ≡ Right
+    → IsCompared answer (Ok found) → answer ≡ Ok tt
+of_right (Ok nothing) found is so = refl
+of_right (Err error) found is so = absurd (subst (λ (f : Finding). IsCompared (Err error) (Ok f)) is so)
+
+pub of_wrong : (answer : Result (Unit {0}) ShelfError) (found : Finding) (stored computed : ℕ)
+    → found ≡ Wrong' stored computed → IsCompared answer (Ok found) → answer ≡ Err (Crc' stored computed)
+of_wrong (Ok nothing) found stored computed is so = cc (is, so)
+of_wrong (Err error) found stored computed is so =
+    ap (λ (e : ShelfError). Err e) (subst (λ (f : Finding). IsCompared (Err error) (Ok f)) is so)
+
+pub of_gone : (answer : Result (Unit {0}) ShelfError) (found : Finding) → found ≡ Gone
+    → IsCompared answer (Ok found) → answer ≡ Err Discarded'
+of_gone (Ok nothing) found is so = cc (is, so)
+of_gone (Err error) found is so =
+    ap (λ (e : ShelfError). Err e) (subst (λ (f : Finding). IsCompared (Err error) (Ok f)) is so)
+
+pub of_refused : (answer : Result (Unit {0}) ShelfError) (cause : Cause) → IsCompared answer (Err cause)
+    → (error : ShelfError) × (answer ≡ Err error) × (cause ≡ cause_of error)
+    × ((stored computed : ℕ) → error ≡ Crc' stored computed → ⊥) × (error ≡ Discarded' → ⊥)
+of_refused (Ok nothing) cause so = cc (so)
+of_refused (Err error) cause so = (error, refl, so.0, so.1, so.2)
 
 -- `check` refuses what `get` does
 pub check_refusal : {D : Type 0} (disk : DiskOf D) (kept : KeptShelf) (number : ℕ) (d : D) (error : ShelfError)

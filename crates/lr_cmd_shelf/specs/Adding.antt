@@ -47,7 +47,7 @@ pub record AdditionQuery : Type 1 where
   -- what it decides of bytes that have a way: an addition, or a refusal
   pub decides : List ℕ → Way → Result Addition Refusal → Type 0
   -- the refusals that it may have beside those of every such command: that no shelf stands there, that there is no room
-  pub refuses : Refusal → Type 0
+  pub may_refuse : Refusal → Type 0
 
 -- ---- what is decided
 
@@ -102,7 +102,7 @@ MayEndAdding query (Failed Output) = Unit {0}
 MayEndAdding query NoMemory = Unit {0}
 MayEndAdding query (Refused (NotAShelf at)) = Unit {0}
 MayEndAdding query (Refused (Capacity needed capacity)) = Unit {0}
-MayEndAdding query (Refused refusal) = query.refuses refusal
+MayEndAdding query (Refused refusal) = query.may_refuse refusal
 MayEndAdding query _ = ⊥
 
 -- a cause that comes only where the item was added

@@ -84,10 +84,10 @@ abbrev pub assemble_files_query : (from to apid image : ℕ) → FileQuery
 assemble_files_query from to apid image = record {
   range = entries_between from to;
   looks = λ stored. is_some (segment_for_image apid image stored.file);
-  entry_text = λ read n opened. join_fate (members_of apid image read) (member_of apid image opened);
+  fate = λ read n opened. join_fate (members_of apid image read) (member_of apid image opened);
   gone = λ n. no_text;
   last = λ way read. whole_fate (members_of apid image read);
-  tells = λ read. note_of (members_of apid image read) (skipped_of apid image read);
+  note = λ read. note_of (members_of apid image read) (skipped_of apid image read);
 }
 
 abbrev pub assemble_query : (from to apid image : ℕ) → Query

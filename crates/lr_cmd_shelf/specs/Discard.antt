@@ -34,5 +34,5 @@ abbrev pub discard_query : ℕ → AdditionQuery
 discard_query number = record {
   makes = λ addition. addition ≡ discard_addition number;
   decides = DecidesDiscard number;
-  refuses = RefusesDiscard number;
+  may_refuse = RefusesDiscard number;
 }

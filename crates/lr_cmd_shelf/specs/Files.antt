@@ -16,11 +16,11 @@ pub record FileQuery : Type 0 where
   pub range : ℕ → Option Range
   pub looks : Stored → Bool
   -- of a file after those that were read
-  pub entry_text : List Opened → ℕ → Opened → Result (List ℕ) Refusal
+  pub fate : List Opened → ℕ → Opened → Result (List ℕ) Refusal
   -- of an entry that is gone
   pub gone : ℕ → Result (List ℕ) Refusal
   pub last : Way → List Opened → Result (List ℕ) Refusal
-  pub tells : List Opened → Option Note
+  pub note : List Opened → Option Note
 
 -- the files among what was seen
 abbrev pub files_of : List EntryView → List Opened
@@ -29,18 +29,18 @@ files_of (Whole opened ∷ read) = opened ∷ files_of read
 files_of (Wrong stored computed ∷ read) = files_of read
 files_of (Absent ∷ read) = files_of read
 
-abbrev pub becomes_by : FileQuery → List EntryView → ℕ → EntryView → Result (List ℕ) Refusal
-becomes_by query read number (Whole opened) = query.entry_text (files_of read) number opened
-becomes_by query read number (Wrong stored computed) = Err BadChecksum
-becomes_by query read number Absent = query.gone number
+abbrev pub fate_by : FileQuery → List EntryView → ℕ → EntryView → Result (List ℕ) Refusal
+fate_by query read number (Whole opened) = query.fate (files_of read) number opened
+fate_by query read number (Wrong stored computed) = Err BadChecksum
+fate_by query read number Absent = query.gone number
 
 abbrev pub query_of_files : FileQuery → Query
 query_of_files query = record {
   range = query.range;
   looks = query.looks;
-  entry_text = becomes_by query;
+  fate = fate_by query;
   last = λ way read. query.last way (files_of read);
-  tells = λ read. query.tells (files_of read);
+  note = λ read. query.note (files_of read);
 }
 
 -- ---- what many commands ask
@@ -63,13 +63,13 @@ refused_for None = no_text
 
 -- the file of this number, whose image is looked at or not; one that is gone is refused
 abbrev pub query_of_one : Bool → (ℕ → Opened → Result (List ℕ) Refusal) → ℕ → FileQuery
-query_of_one looks entry_text number = record {
+query_of_one looks fate number = record {
   range = one_entry number;
   looks = λ stored. looks;
-  entry_text = λ read n opened. entry_text n opened;
+  fate = λ read n opened. fate n opened;
   gone = λ n. Err Discarded;
   last = λ way read. no_text;
-  tells = λ read. None;
+  note = λ read. None;
 }
 
 -- those from one number up to another, which is at most the number of entries

@@ -42,18 +42,19 @@ BegunComesFirst =
 
 -- ---- reasons
 
--- Each reason that `extract` has for a refusal, in its order: no such number, gone, no record there, a wrong checksum;
--- and what it puts where there is none.
-pub record HasReasons (number : ℕ) (bytes : List ℕ) (way : Way) : Type 0 where
-  pub no_file : length way.entries ≤ number
-      → IsRefusedFor (extract_query number) bytes (NoSuchFile (length way.entries))
-  pub gone : number < length way.entries → (entry_at way number).gone ≡ true
-      → IsRefusedFor (extract_query number) bytes Discarded
+-- Each reason for a refusal that a command on a file's number has before it sees the file, in its order: no such
+-- number, gone, no record there, a wrong checksum.
+pub record HasFirstReasons (query : Query) (number : ℕ) (bytes : List ℕ) (way : Way) : Type 0 where
+  pub no_file : length way.entries ≤ number → IsRefusedFor query bytes (NoSuchFile (length way.entries))
+  pub gone : number < length way.entries → (entry_at way number).gone ≡ true → IsRefusedFor query bytes Discarded
   pub no_record : number < length way.entries → IsFound bytes (entry_at way number) None
-      → IsRefusedFor (extract_query number) bytes (NotAShelf (entry_at way number).gate)
+      → IsRefusedFor query bytes (NotAShelf (entry_at way number).gate)
   pub bad : number < length way.entries → (stored computed : ℕ)
-      → IsFound bytes (entry_at way number) (Some (Bad stored computed))
-      → IsRefusedFor (extract_query number) bytes BadChecksum
+      → IsFound bytes (entry_at way number) (Some (Bad stored computed)) → IsRefusedFor query bytes BadChecksum
+
+-- The reasons of `extract`, and what it puts where there is none.
+pub record HasReasons (number : ℕ) (bytes : List ℕ) (way : Way) : Type 0 where
+  pub first : HasFirstReasons (extract_query number) number bytes way
   pub sound : number < length way.entries → (stored : Stored)
       → IsFound bytes (entry_at way number) (Some (Sound stored))
       → IsAnswer (extract_query number) bytes (done_answer (proper_of stored.file) None)
@@ -65,18 +66,10 @@ pub record HasReasons (number : ℕ) (bytes : List ℕ) (way : Way) : Type 0 whe
 abbrev pub ExtractHasReasons : Type 0
 ExtractHasReasons = (number : ℕ) (bytes : List ℕ) (way : Way) → IsWay bytes way → HasReasons number bytes way
 
--- Each reason that `export` has for a refusal, in its order: no such number, gone, no record there, a wrong checksum,
--- the first fault of a file without an image; and what it puts where the file has one.
+-- Those of `export`, and after them the first fault of a file without an image; and what it puts where the file has
+-- one.
 pub record HasExportReasons (number : ℕ) (bytes : List ℕ) (way : Way) : Type 0 where
-  pub no_file : length way.entries ≤ number
-      → IsRefusedFor (export_query number) bytes (NoSuchFile (length way.entries))
-  pub gone : number < length way.entries → (entry_at way number).gone ≡ true
-      → IsRefusedFor (export_query number) bytes Discarded
-  pub no_record : number < length way.entries → IsFound bytes (entry_at way number) None
-      → IsRefusedFor (export_query number) bytes (NotAShelf (entry_at way number).gate)
-  pub bad : number < length way.entries → (stored computed : ℕ)
-      → IsFound bytes (entry_at way number) (Some (Bad stored computed))
-      → IsRefusedFor (export_query number) bytes BadChecksum
+  pub first : HasFirstReasons (export_query number) number bytes way
   pub fault : number < length way.entries → (stored : Stored)
       → IsFound bytes (entry_at way number) (Some (Sound stored)) → (first : ImageFault)
       → HasOutcome stored.file (Err first) → (word : ExportFault) → image_fault first ≡ Some word
@@ -92,8 +85,8 @@ ExportHasReasons = (number : ℕ) (bytes : List ℕ) (way : Way) → IsWay bytes
 -- the only text of a command on a file's number is that of one entry
 abbrev pub OneFilePutsOneText : Type 0
 OneFilePutsOneText =
-    (looks : Bool) (entry_text : ℕ → Opened → Result (List ℕ) Refusal) (number : ℕ)
-    → PutsOneText (query_of_files (query_of_one looks entry_text number))
+    (looks : Bool) (fate : ℕ → Opened → Result (List ℕ) Refusal) (number : ℕ)
+    → PutsOneText (query_of_files (query_of_one looks fate number))
 
 -- Each reason that `verify` has for a refusal, and that it has no other.
 pub record SaysWhy (bytes : List ℕ) (way : Way) (answer : Answer) : Type 0 where

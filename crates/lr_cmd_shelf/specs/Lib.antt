@@ -1,6 +1,7 @@
 pub mod Adding
 pub mod Queries
 pub mod Assemble
+pub mod Comparing
 pub mod Discard
 pub mod Export
 pub mod Extract

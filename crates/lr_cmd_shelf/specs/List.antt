@@ -9,10 +9,10 @@ abbrev pub list_files_query : FileQuery
 list_files_query = record {
   range = all_entries;
   looks = no_image;
-  entry_text = λ read number opened. Ok (file_line number opened.stored.file opened.stored.origin);
+  fate = λ read number opened. Ok (file_line number opened.stored.file opened.stored.origin);
   gone = λ number. Ok (gone_line number);
   last = λ way read. Ok (shelf_line (length way.entries) way.end way.capacity);
-  tells = no_note;
+  note = no_note;
 }
 
 abbrev pub list_query : Query

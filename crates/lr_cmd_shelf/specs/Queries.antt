@@ -51,11 +51,11 @@ pub record Query : Type 0 where
   -- the files at whose images it looks
   pub looks : Stored → Bool
   -- the text of an entry after those that were seen, or what the run is refused for there
-  pub entry_text : List EntryView → ℕ → EntryView → Result (List ℕ) Refusal
+  pub fate : List EntryView → ℕ → EntryView → Result (List ℕ) Refusal
   -- the last text, or what the run is refused for after the last entry
   pub last : Way → List EntryView → Result (List ℕ) Refusal
   -- what is told beside the last text
-  pub tells : List EntryView → Option Note
+  pub note : List EntryView → Option Note
 
 -- the entry of this number
 abbrev pub entry_at : Way → ℕ → Entry
@@ -64,7 +64,7 @@ entry_at way number = entry_in way.entries number
 -- what becomes of what is seen there; every run is refused at an entry that has no item
 abbrev pub fate_of : Query → Way → List EntryView → ℕ → Option EntryView → Result (List ℕ) Refusal
 fate_of query way read number None = Err (NotAShelf (entry_at way number).gate)
-fate_of query way read number (Some seen) = query.entry_text read number seen
+fate_of query way read number (Some seen) = query.fate read number seen
 
 -- ---- answers
 
@@ -113,7 +113,7 @@ module _ (over : QueryOver) where
     pub text : List ℕ
     pub rest : Answer
     pub stands : IsSeen over.query.looks over.bytes (entry_at over.way number) (Some seen)
-    pub fate : over.query.entry_text read number seen ≡ Ok text
+    pub fate : over.query.fate read number seen ≡ Ok text
     pub after : After seen rest
     pub is : answer ≡ then_rest text rest
 
@@ -127,7 +127,7 @@ module _ (over : QueryOver) where
 
   -- the answer of this many entries, from this number on, after those that were seen
   abbrev pub AnswersFrom : (left number : ℕ) → List EntryView → Answer → Type 0
-  AnswersFrom zero number read answer = answer ≡ answer_of (over.query.last over.way read) (over.query.tells read)
+  AnswersFrom zero number read answer = answer ≡ answer_of (over.query.last over.way read) (over.query.note read)
   AnswersFrom (suc left) number read answer =
       PassesEntry read number (λ seen rest. AnswersFrom left (number + 1) (read ++ seen ∷ []) rest) answer
       ⊎ IsRefusedAtEntry read number answer
@@ -154,7 +154,7 @@ IsRefusedFor query bytes refusal = (answer : Answer) × IsAnswer query bytes ans
 
 -- what is asked of the entries alone, and nothing after them
 abbrev pub without_last : Query → Query
-without_last query = record query { last = λ way read. Ok []; tells = λ read. None }
+without_last query = record query { last = λ way read. Ok []; note = λ read. None }
 
 -- the texts of the first entries of the range, this many, after which at least this many are left
 pub record BegunOn (over : QueryOver) (passed left : ℕ) (text : List ℕ) : Type 0 where

@@ -15,10 +15,10 @@ use Rattle.lr_cmd_shelf.specs.Read.{AreSeen, entries_seen}
 pub record ReachesEntry (over : QueryOver) (from number : ℕ) (read : List EntryView) (text : List ℕ) : Type 0 where
   pub on : (last : Way → List EntryView → Result (List ℕ) Refusal) (tells : List EntryView → Option Note) (to : ℕ)
       → number ≤ to → (rest : Answer)
-      → AnswersFrom (record over { query = record (over.query) { last = last; tells = tells } }) (to - number) number
+      → AnswersFrom (record over { query = record (over.query) { last = last; note = tells } }) (to - number) number
       read
       rest
-      → AnswersFrom (record over { query = record (over.query) { last = last; tells = tells } }) (to - from) from []
+      → AnswersFrom (record over { query = record (over.query) { last = last; note = tells } }) (to - from) from []
       (then_rest text rest)
 
 -- a run over the entries of this range, and what it gathers of those that it read

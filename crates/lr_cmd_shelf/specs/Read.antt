@@ -26,7 +26,7 @@ module _ {D : Type 0} (disk : DiskOf D) (d : D) where
         → IsSeen seen.query.looks (disk.contents d) (entry_at seen.way (seen.from + i)) (slice_get seen.read i)
     pub count : length texts ≡ length seen.read
     pub become : (i : ℕ) (one : EntryView) → slice_get seen.read i ≡ Some one
-        → seen.query.entry_text (take i seen.read) (seen.from + i) one ≡ Ok (slice_index_or texts i [])
+        → seen.query.fate (take i seen.read) (seen.from + i) one ≡ Ok (slice_index_or texts i [])
 
   -- all entries of the range were read, this was put of them and after them, and this was gathered
   pub record HasGathered {G : Type 0} (on : QueryOn) (gathers : G → List EntryView → Type 0) (put : List ℕ) : Type 0

@@ -88,7 +88,7 @@ module _ (number block : ℕ) where
   RefusesRepack _ = ⊥
 
   abbrev pub repack_query : AdditionQuery
-  repack_query = record { makes = MakesRepacked; decides = DecidesRepack; refuses = RefusesRepack }
+  repack_query = record { makes = MakesRepacked; decides = DecidesRepack; may_refuse = RefusesRepack }
 
 -- ---- a file that was read
 

@@ -26,7 +26,7 @@ use Rattle.lr_causes.specs.Outside.{Outlets, OutletsOf, outlet_counts, TellOn}
 pub data MayRefuse (query : Query) (refusal : Refusal) : Type 0 where
   at_place : (at : ℕ) → refusal ≡ NotAShelf at → MayRefuse query refusal
   by_count : (count : ℕ) → query.range count ≡ None → refusal ≡ NoSuchFile count → MayRefuse query refusal
-  at_entry : (read : List EntryView) (number : ℕ) (seen : EntryView) → query.entry_text read number seen ≡ Err refusal
+  at_entry : (read : List EntryView) (number : ℕ) (seen : EntryView) → query.fate read number seen ≡ Err refusal
       → MayRefuse query refusal
   at_end : (way : Way) (read : List EntryView) → query.last way read ≡ Err refusal → MayRefuse query refusal
 
@@ -36,7 +36,7 @@ pub record IsDoneWith (query : Query) (told : Option Note) : Type 0 where
   pub read : List EntryView
   pub text : List ℕ
   pub last : query.last way read ≡ Ok text
-  pub tells : query.tells read ≡ told
+  pub note : query.note read ≡ told
 
 -- the causes that it may have, over any disk
 abbrev pub MayCause : Query → Cause → Type 0
@@ -141,7 +141,7 @@ pub record PutsSeen (query : Query) (text : List ℕ) : Type 0 where
   pub texts : List (List ℕ)
   pub count : length texts ≡ length read
   pub each : (i : ℕ) (one : EntryView) → slice_get read i ≡ Some one
-      → query.entry_text (take i read) (range.from + i) one ≡ Ok (slice_index_or texts i [])
+      → query.fate (take i read) (range.from + i) one ≡ Ok (slice_index_or texts i [])
   pub last : List ℕ
   pub last_is : query.last way read ≡ Ok last
   pub is : text ≡ concat texts ++ last

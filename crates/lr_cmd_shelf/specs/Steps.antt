@@ -1,5 +1,6 @@
 -- What the calls of a command do in a run: at one entry, and after the last.
 use Rattle.std.specs.Prelude.{◌≡◌, ◌<◌, ℕ, Option, Some, Result, Ok, Err, List, [], ◌∷◌, ◌++◌, length}
+use Rattle.lr_bits.specs.Telling.{KeepsTelling}
 use Rattle.lr_io.specs.declared.sink.Sink.{Ghosts as SinkOf}
 use Rattle.lr_disk.specs.Reads.{IsOnlyRead}
 use Rattle.lr_disk.specs.declared.disk.Disk.{Ghosts as DiskOf}
@@ -51,7 +52,7 @@ module _ {D O : Type 0} (world : OutletsOf D O) (at : AtEntry) where
     pub seen : EntryView
     pub stands : world.disk.tells w.disk
         → IsSeen at.query.looks (world.disk.contents w.disk) (entry_at at.way at.number) (Some seen)
-    pub puts : PutsText world.out (at.query.entry_text at.read at.number seen) w.out w'.out
+    pub puts : PutsText world.out (at.query.fate at.read at.number seen) w.out w'.out
     pub gathered : gathers (at.read ++ seen ∷ [])
 
   -- what stands there is known, and its text was not put
@@ -70,6 +71,5 @@ module _ {D O : Type 0} (world : OutletsOf D O) (at : AtEntry) where
 -- a call that reads the disk alone, and keeps the shelf as it is
 pub record ReadsOnly {D : Type 0} (disk : DiskOf D) (shelf shelf' : Shelf) (d d' : D) : Type 0 where
   pub kept : kept_by shelf' ≡ kept_by shelf
-  pub told : disk.tells d → disk.tells d'
-  pub untold : disk.tells d' → disk.tells d
+  pub tell : KeepsTelling (disk.tells d) (disk.tells d')
   pub only_read : IsOnlyRead disk d d'

@@ -27,7 +27,7 @@ abbrev pub verify_query : Query
 verify_query = record {
   range = all_entries;
   looks = no_image;
-  entry_text = λ read number seen. Ok (verify_line number seen);
+  fate = λ read number seen. Ok (verify_line number seen);
   last = λ way read. verdict (none_bad read);
-  tells = λ read. None;
+  note = λ read. None;
 }

@@ -8,7 +8,7 @@ use lr_catalog::discard_line;
 use lr_causes::{Cause, put_text};
 use lr_disk::Disk;
 use lr_io::Sink;
-use lr_refusals::shelf_cause;
+use lr_refusals::shelf_answer;
 use lr_shelf::Shelf;
 use std::alloc::Global;
 
@@ -22,12 +22,12 @@ pub fn discard<D: Disk, O: Sink>(alloc: Global, number: u64, disk: &mut D, out: 
     if let Err(error) = discard_line(alloc, number, &mut line) {
         return Cause::from(error);
     }
-    let mut shelf = match Shelf::load(alloc, disk) {
+    let mut shelf = match shelf_answer(Shelf::load(alloc, disk)) {
         Ok(shelf) => shelf,
-        Err(error) => return shelf_cause(error),
+        Err(cause) => return cause,
     };
-    if let Err(error) = shelf.discard(disk, number) {
-        return shelf_cause(error);
+    if let Err(cause) = shelf_answer(shelf.discard(disk, number)) {
+        return cause;
     }
     match put_text(line.as_slice(), out) {
         Ok(()) => Cause::Done,

@@ -21,7 +21,7 @@ impl PutsFile for Exporting {
 
     ghost looks = { λ s. true };
 
-    ghost entry_text = { λ s number opened. export_fate number opened };
+    ghost fate = { λ s number opened. export_fate number opened };
 
     fn looks(&self) -> bool {
         true

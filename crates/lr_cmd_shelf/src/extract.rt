@@ -19,7 +19,7 @@ impl PutsFile for Extracting {
 
     ghost looks = { λ s. false };
 
-    ghost entry_text = { λ s number opened. extract_fate number opened };
+    ghost fate = { λ s number opened. extract_fate number opened };
 
     fn looks(&self) -> bool {
         false

@@ -58,11 +58,11 @@ pub trait ReadsFiles {
         out: &mut O,
     ) -> Result<(), Cause>
         ensures puts { (read : List Opened) → gathers self.now gathered.old read
-            → OnOk result (PutsText O.Sink ((query self.now).entry_text read number opened.now) out.old out.new) }
+            → OnOk result (PutsText O.Sink ((query self.now).fate read number opened.now) out.old out.new) }
         ensures gathered { (read : List Opened) → length read + 1 < 2 ^ 64 → gathers self.now gathered.old read
             → OnOk result (gathers self.now gathered.new (read ++ opened.now ∷ [])) }
         ensures stops { (read : List Opened) → gathers self.now gathered.old read → IfErr result (λ cause.
-            TextStops O.Sink ((query self.now).entry_text read number opened.now) cause out.old out.new) };
+            TextStops O.Sink ((query self.now).fate read number opened.now) cause out.old out.new) };
 
     /// Puts the text of an entry that is gone. Memory is taken before the text, and none where that is refused.
     fn gone_entry<O: Sink>(&self, alloc: Global, number: u64, out: &mut O) -> Result<(), Cause>
@@ -84,7 +84,7 @@ pub trait ReadsFiles {
         ensures puts { (read : List Opened) → gathers self.now gathered read
             → OnOk result (PutsText O.Sink ((query self.now).last (kept_by shelf.now).way read) out.old out.new) }
         ensures tells { (read : List Opened) → gathers self.now gathered read
-            → IfOk result (λ note. note ≡ (query self.now).tells read) }
+            → IfOk result (λ note. note ≡ (query self.now).note read) }
         ensures stops { (read : List Opened) → gathers self.now gathered read → IfErr result (λ cause.
             TextStops O.Sink ((query self.now).last (kept_by shelf.now).way read) cause out.old out.new) }
         ensures sure { (read : List Opened) → gathers self.now gathered read

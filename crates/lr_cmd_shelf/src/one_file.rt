@@ -25,7 +25,7 @@ pub(crate) trait PutsFile {
     ghost looks: { Self → Bool };
 
     /// The text of the file of this number, or what the run is refused for.
-    ghost entry_text: { Self → ℕ → Opened → Result (List ℕ) Refusal' };
+    ghost fate: { Self → ℕ → Opened → Result (List ℕ) Refusal' };
 
     /// Whether it looks at the image.
     fn looks(&self) -> bool
@@ -39,11 +39,11 @@ pub(crate) trait PutsFile {
         opened: &Opened,
         out: &mut O,
     ) -> Result<(), Cause>
-        ensures puts { OnOk result (PutsText O.Sink (entry_text self.now number opened.now) out.old out.new) }
+        ensures puts { OnOk result (PutsText O.Sink (fate self.now number opened.now) out.old out.new) }
         ensures stops { IfErr result (λ cause.
-            TextStops O.Sink (entry_text self.now number opened.now) cause out.old out.new) }
+            TextStops O.Sink (fate self.now number opened.now) cause out.old out.new) }
         // A refusal takes no memory.
-        ensures refuses { (refusal : Refusal') → entry_text self.now number opened.now ≡ Err refusal
+        ensures refuses { (refusal : Refusal') → fate self.now number opened.now ≡ Err refusal
             → result ≡ Err (Cause.Refused refusal) };
 }
 
@@ -59,7 +59,7 @@ impl<C: PutsFile> ReadsFiles for OneFile<C> {
 
     type Gathered = ();
 
-    ghost query = { λ s. query_of_one (C.looks s.command) (C.entry_text s.command) s.number };
+    ghost query = { λ s. query_of_one (C.looks s.command) (C.fate s.command) s.number };
 
     ghost gathers = { λ s gathered read. Unit {0} };
 
@@ -104,7 +104,7 @@ pub(crate) fn run_one<C: PutsFile + Drop, D: Disk, O: Sink>(
     out: &mut O,
 ) -> Cause
     ensures { RunsOver (outlets_of D.Disk O.Sink)
-        (query_of_files (query_of_one (C.looks command) (C.entry_text command) number)) result
+        (query_of_files (query_of_one (C.looks command) (C.fate command) number)) result
         (outlets disk.old out.old) (outlets disk.new out.new) }
 {
     run_entries(alloc, &Files(OneFile { number, command }), disk, out)

@@ -74,7 +74,7 @@ pub trait ReadsEntries {
         ensures takes { (read : List EntryView) → gathers self.now gathered read
             → OnOk result (PutsText O.Sink ((query self.now).last (kept_by shelf.now).way read) out.old out.new) }
         ensures tells { (read : List EntryView) → gathers self.now gathered read
-            → IfOk result (λ note. note ≡ (query self.now).tells read) }
+            → IfOk result (λ note. note ≡ (query self.now).note read) }
         ensures stops { (read : List EntryView) → gathers self.now gathered read → IfErr result (λ cause.
             TextStops O.Sink ((query self.now).last (kept_by shelf.now).way read) cause out.old out.new) }
         ensures sure { (read : List EntryView) → gathers self.now gathered read

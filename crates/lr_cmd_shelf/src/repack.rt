@@ -11,7 +11,7 @@ use lr_catalog::repack_line;
 use lr_causes::{Cause, CodingFault, Refusal, put_text};
 use lr_disk::Disk;
 use lr_io::Sink;
-use lr_refusals::{image_cause, shelf_cause};
+use lr_refusals::{image_cause, shelf_answer};
 use lr_rice_coder::RepackFault;
 use lr_shelf::{Shelf, Stored};
 use std::alloc::Global;
@@ -100,20 +100,20 @@ pub fn repack<D: Disk, O: Sink>(
     ensures { RunsAdding (outlets_of D.Disk O.Sink) (repack_query number block) result
         (outlets disk.old out.old) (outlets disk.new out.new) }
 {
-    let mut shelf = match Shelf::load(alloc, disk) {
+    let mut shelf = match shelf_answer(Shelf::load(alloc, disk)) {
         Ok(shelf) => shelf,
-        Err(error) => return shelf_cause(error),
+        Err(cause) => return cause,
     };
-    let stored = match shelf.get(disk, number) {
+    let stored = match shelf_answer(shelf.get(disk, number)) {
         Ok(stored) => stored,
-        Err(error) => return shelf_cause(error),
+        Err(cause) => return cause,
     };
     let made = match code_stored(alloc, number, shelf.len(), block, stored) {
         Ok(made) => made,
         Err(cause) => return cause,
     };
-    if let Err(error) = shelf.append(disk, &made.placed) {
-        return shelf_cause(error);
+    if let Err(cause) = shelf_answer(shelf.append(disk, &made.placed)) {
+        return cause;
     }
     match put_text(made.line.as_slice(), out) {
         Ok(()) => Cause::Done,

@@ -11,7 +11,7 @@ use crate::reads::ReadsEntries;
 use lr_causes::{Cause, Note, Refusal};
 use lr_disk::Disk;
 use lr_io::Sink;
-use lr_refusals::shelf_cause;
+use lr_refusals::shelf_answer;
 use lr_shelf::Shelf;
 use std::alloc::Global;
 
@@ -68,9 +68,9 @@ pub fn run_entries<C: ReadsEntries, D: Disk, O: Sink>(
         Ok(gathered) => gathered,
         Err(error) => return Cause::from(error),
     };
-    let mut shelf = match Shelf::load(alloc, disk) {
+    let mut shelf = match shelf_answer(Shelf::load(alloc, disk)) {
         Ok(shelf) => shelf,
-        Err(error) => return shelf_cause(error),
+        Err(cause) => return cause,
     };
     match take_entries(alloc, command, gathered, &mut shelf, disk, out) {
         Ok(note) => Cause::done_with(note),

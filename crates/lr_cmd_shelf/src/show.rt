@@ -33,7 +33,7 @@ impl PutsFile for Showing {
 
     ghost looks = { λ s. false };
 
-    ghost entry_text = { λ s number opened. show_fate number opened };
+    ghost fate = { λ s number opened. show_fate number opened };
 
     fn looks(&self) -> bool {
         false

@@ -4,6 +4,7 @@ ghost use Rattle.lr_catalog.specs.Files.{check_line};
 ghost use Rattle.lr_causes.specs.Outside.{outlets, outlets_of};
 ghost use Rattle.lr_cmd_shelf.specs.Runs.{RunsOver};
 ghost use Rattle.lr_cmd_shelf.specs.Steps.{PutsText, TextStops};
+ghost use Rattle.lr_cmd_shelf.specs.Comparing.{IsCompared};
 ghost use Rattle.lr_cmd_shelf.specs.Verify.{verify_query};
 
 use crate::gone::put_gone;
@@ -32,6 +33,32 @@ fn put_check<O: Sink>(
     let mut line = Bytes::new(alloc);
     check_line(alloc, number, bad, &mut line)?;
     put_text(line.as_slice(), out)
+}
+
+/// What the comparison of an entry's checksum finds.
+#[derive(Drop)]
+pub(crate) enum Finding {
+    /// The checksum is that of the file's bytes.
+    Right,
+    /// It is another one.
+    Wrong { stored: u16, computed: u16 },
+    /// The file is gone.
+    Gone,
+}
+
+/// What is found of an entry, by what the shelf answers for it, or the cause of its error. So a refusal keeps its own
+/// cause.
+fn compared(answer: Result<(), ShelfError>) -> Result<Finding, Cause>
+    ensures { IsCompared answer result }
+{
+    match answer {
+        Ok(()) => Ok(Finding::Right),
+        Err(error) => match error {
+            ShelfError::Crc { stored, computed } => Ok(Finding::Wrong { stored, computed }),
+            ShelfError::Discarded => Ok(Finding::Gone),
+            refused => Err(shelf_cause(refused)),
+        },
+    }
 }
 
 #[derive(Drop)]
@@ -65,16 +92,14 @@ impl ReadsEntries for VerifyAll {
         out: &mut O,
     ) -> Result<(), Cause> {
         let alloc = shelf.allocator();
-        match shelf.check(disk, number) {
-            Ok(()) => put_check(alloc, number, None, out),
-            Err(error) => match error {
-                ShelfError::Crc { stored, computed } => {
-                    *sound = false;
-                    put_check(alloc, number, Some((stored, computed)), out)
-                }
-                ShelfError::Discarded => put_gone(alloc, number, out),
-                refused => Err(shelf_cause(refused)),
-            },
+        match compared(shelf.check(disk, number)) {
+            Ok(Finding::Right) => put_check(alloc, number, None, out),
+            Ok(Finding::Wrong { stored, computed }) => {
+                *sound = false;
+                put_check(alloc, number, Some((stored, computed)), out)
+            }
+            Ok(Finding::Gone) => put_gone(alloc, number, out),
+            Err(cause) => Err(cause),
         }
     }
 

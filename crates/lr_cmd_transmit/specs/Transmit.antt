@@ -61,10 +61,10 @@ abbrev pub transmit_files_query : Sending → FileQuery
 transmit_files_query asked = record {
   range = entries_between asked.from asked.to;
   looks = no_image;
-  entry_text = λ read n opened. sent_entry_text asked.line asked.wrong (files_read read) opened.stored.file;
+  fate = λ read n opened. sent_entry_text asked.line asked.wrong (files_read read) opened.stored.file;
   gone = λ n. no_text;
   last = λ way read. no_text;
-  tells = no_note;
+  note = no_note;
 }
 
 abbrev pub transmit_query : Sending → Query

@@ -2,6 +2,7 @@
 use Rattle.std.proofs.Common.{◌≡◌, ℕ, List, Result, Ok, refl, subst, arith}
 use Rattle.lr_bits.specs.Faults.{HasCause}
 use Rattle.lr_bits.specs.declared.refusals.Failed.{Failed}
+use Rattle.lr_bits.proofs.Telling.{tells_both, tells_still}
 use Rattle.lr_disk.specs.Disk.{Elapses, SameImages}
 use Rattle.lr_disk.specs.Reads.{IsCall, OnlyReads}
 use Rattle.lr_disk.specs.declared.disk.Disk.{Ghosts as DiskOf}
@@ -18,8 +19,7 @@ module _ {D : Type 0} (disk : DiskOf D)
   pub no_call : {T : Type 0} (d : D) (answer : T) → disk.only_read d d → OnlyReads disk d d (Ok answer)
   no_call d answer none = record {
     cause = record { later = omega arith; kept = refl; rose = tt };
-    told = λ told. told;
-    untold = λ told. told;
+    tell = tells_still;
     only_read = only_read_yet disk only_now d none;
     kept = λ told c image. image;
   }
@@ -34,8 +34,7 @@ module _ {D : Type 0} (disk : DiskOf D)
       → OnlyReads disk d d' r
   reads_call d d' r cause reads told untold contents crash time = record {
     cause = cause;
-    told = told;
-    untold = untold;
+    tell = record { told = told; untold = untold };
     only_read = only_read_call disk only_now d d' reads contents crash time;
     kept = λ t c image. (crash t c).1 image;
   }
@@ -47,10 +46,9 @@ module _ {D : Type 0} (disk : DiskOf D)
       → OnlyReads disk d mid (Ok first) → OnlyReads disk mid d' r → OnlyReads disk d d' r
   reads_joined d mid d' first r one two = record {
     cause = cause_joined (disk.faults d) (disk.faults mid) (disk.faults d') r one.cause.kept two.cause;
-    told = λ t. two.told (one.told t);
-    untold = λ t. one.untold (two.untold t);
-    only_read = only_read_joined disk reads_on d mid d' one.told one.only_read two.only_read;
-    kept = λ t c image. two.kept (one.told t) c (one.kept t c image);
+    tell = tells_both one.tell two.tell;
+    only_read = only_read_joined disk reads_on d mid d' one.tell.told one.only_read two.only_read;
+    kept = λ t c image. two.kept (one.tell.told t) c (one.kept t c image);
   }
 
 module _ {D : Type 0} (disk : DiskOf D) where
@@ -59,8 +57,7 @@ module _ {D : Type 0} (disk : DiskOf D) where
       → OnlyReads disk d d' (Ok other)
   reads_answer d d' first other one = record {
     cause = record { later = one.cause.later; kept = one.cause.kept; rose = tt };
-    told = one.told;
-    untold = one.untold;
+    tell = one.tell;
     only_read = one.only_read;
     kept = one.kept;
   }
@@ -70,6 +67,5 @@ module _ {D : Type 0} (disk : DiskOf D) where
       → IsCall disk d mid (Ok first) → IsCall disk mid d' r → IsCall disk d d' r
   calls_joined d mid d' first r one two = record {
     cause = cause_joined (disk.faults d) (disk.faults mid) (disk.faults d') r one.cause.kept two.cause;
-    told = λ t. two.told (one.told t);
-    untold = λ t. one.untold (two.untold t);
+    tell = tells_both one.tell two.tell;
   }

@@ -2,6 +2,7 @@
 use Rattle.std.specs.Prelude.{◌≡◌, Result}
 use Rattle.lr_bits.specs.Faults.{HasCause}
 use Rattle.lr_bits.specs.declared.refusals.Failed.{Failed}
+use Rattle.lr_bits.specs.Telling.{KeepsTelling}
 use Rattle.lr_disk.specs.Disk.{KeepsImages, NoOther}
 use Rattle.lr_disk.specs.declared.disk.Disk.{Ghosts as DiskOf}
 use Rattle.lr_disk.specs.Pending.{EachImageSince}
@@ -21,13 +22,11 @@ module _ {D : Type 0} (disk : DiskOf D) where
   -- what every call keeps, whatever it answers
   pub record IsCall {T : Type 0} (d d' : D) (result : Result T Failed) : Type 0 where
     pub cause : HasCause (disk.faults d) (disk.faults d') result
-    pub told : disk.tells d → disk.tells d'
-    pub untold : disk.tells d' → disk.tells d
+    pub tell : KeepsTelling (disk.tells d) (disk.tells d')
 
   -- what every call keeps besides that asks for the length or reads, and does nothing else
   pub record OnlyReads {T : Type 0} (d d' : D) (result : Result T Failed) : Type 0 where
     pub cause : HasCause (disk.faults d) (disk.faults d') result
-    pub told : disk.tells d → disk.tells d'
-    pub untold : disk.tells d' → disk.tells d
+    pub tell : KeepsTelling (disk.tells d) (disk.tells d')
     pub only_read : IsOnlyRead d d'
     pub kept : disk.tells d → KeepsImages (disk.may_leave d) (disk.may_leave d')

@@ -1,6 +1,7 @@
 //! Files that are read and written at places, as the system's open files are: what a disk needs of one.
 ghost use Rattle.std.specs.Prelude.{◌≡◌, ◌⊎◌, ◌<◌, ◌≤◌, ◌+◌, List, ℕ, min, length, take, IfOk, OnOk, OnErr, ◌^◌};
 ghost use Rattle.lr_bits.specs.Faults.{FailsAtOnce, WritesAtOnce};
+ghost use Rattle.lr_bits.specs.Telling.{KeepsTelling};
 ghost use Rattle.lr_bits.specs.Sizes.{most_u64};
 ghost use Rattle.lr_disk.specs.Disk.{
   Written,
@@ -43,8 +44,7 @@ pub trait RandomAccessFile {
 
     /// How many bytes it has.
     fn length(&mut self) -> io::Result<u64>
-        ensures told { tells self.old → tells self.new }
-        ensures untold { tells self.new → tells self.old }
+        ensures tell { KeepsTelling (tells self.old) (tells self.new) }
         ensures errors { tells self.old → FailsAtOnce (errors self.old) (errors self.new) result }
         ensures size { tells self.old → IfOk result (λ n. n ≡ length (contents self.old)) }
         ensures contents { tells self.old → contents self.new ≡ contents self.old }
@@ -57,8 +57,7 @@ pub trait RandomAccessFile {
     fn read_at(&mut self, at: u64, into: &mut [u8]) -> io::Result<usize>
         requires { 0 < length into.old }
         ensures within { IfOk result (λ n. n ≤ length into.new) }
-        ensures told { tells self.old → tells self.new }
-        ensures untold { tells self.new → tells self.old }
+        ensures tell { KeepsTelling (tells self.old) (tells self.new) }
         ensures errors { tells self.old → FailsAtOnce (errors self.old) (errors self.new) result }
         ensures bytes { tells self.old → IfOk result (λ n. take n into.new ≡ bytes_at at n (contents self.old)) }
         ensures ended { tells self.old → IfOk result (λ n. n ≡ 0 → length (contents self.old) ≤ at) }
@@ -74,8 +73,7 @@ pub trait RandomAccessFile {
         requires some { 0 < length bytes.now }
         requires low { at + length bytes.now ≤ 2 ^ 62 }
         ensures within { IfOk result (λ n. n ≤ length bytes.now) }
-        ensures told { tells self.old → tells self.new }
-        ensures untold { tells self.new → tells self.old }
+        ensures tell { KeepsTelling (tells self.old) (tells self.new) }
         ensures errors { tells self.old → WritesAtOnce (errors self.old) (errors self.new) result }
         ensures written { tells self.old → IfOk result (λ n. 0 < n
             → Written at (take n bytes.now) (contents self.old) (contents self.new)) }
@@ -91,8 +89,7 @@ pub trait RandomAccessFile {
     /// Takes away the bytes from a place on, which isn't past the end. What a crash might have left before it may leave
     /// still.
     fn set_length(&mut self, size: u64) -> io::Result<()>
-        ensures told { tells self.old → tells self.new }
-        ensures untold { tells self.new → tells self.old }
+        ensures tell { KeepsTelling (tells self.old) (tells self.new) }
         ensures errors { tells self.old → FailsAtOnce (errors self.old) (errors self.new) result }
         ensures cut { tells self.old → size ≤ length (contents self.old)
             → OnOk result (contents self.new ≡ take size (contents self.old)) }
@@ -109,8 +106,7 @@ pub trait RandomAccessFile {
 
     /// Makes sure that a crash from now on leaves what a read gives, its length too.
     fn sync(&mut self) -> io::Result<()>
-        ensures told { tells self.old → tells self.new }
-        ensures untold { tells self.new → tells self.old }
+        ensures tell { KeepsTelling (tells self.old) (tells self.new) }
         ensures errors { tells self.old → FailsAtOnce (errors self.old) (errors self.new) result }
         ensures durable { tells self.old → OnOk result (Only (contents self.new) (may_leave self.new)) }
         ensures contents { tells self.old → contents self.new ≡ contents self.old }

@@ -264,7 +264,7 @@ module _ (line : LineCode) (stream : List ℕ) where
       map_push (outcome_in line symbols) is.given frame
       ∙ ap (λ (l : List Outcome). l ++ outcome_in line symbols frame ∷ []) before
       ∙ ap (λ (o : Outcome). outcomes_given (coded_stream line stream) (given_frames fed is.given) ++ o ∷ [])
-          (sym here) in
+      (sym here) in
       let step = pushed (outcomes_given (coded_stream line stream) (given_frames fed is.given)) is.layers_stand in
       record {
         given = is.given ++ frame ∷ [];

@@ -3,6 +3,7 @@ use Rattle.std.proofs.Common.{◌≡◌, ◌≤◌, ℕ, min, Result, Ok, Err, L
 use Rattle.std.proofs.Common.{length, take, drop, refl, sym, ap, ◌∙◌, subst, arith, length-append}
 use Rattle.lr_bits.specs.Faults.{Rose}
 use Rattle.lr_bits.specs.declared.placed.Placed.{Placed}
+use Rattle.lr_bits.proofs.Telling.{tells_both, tells_still}
 use Rattle.lr_disk.specs.declared.disk.Disk.{Ghosts as DiskOf}
 use Rattle.lr_disk.specs.Pending.{EachImageSince, NothingPending}
 use Rattle.lr_disk.proofs.Moments.{joined, stays, weaker}
@@ -32,8 +33,7 @@ module _ {D : Type 0} (disk : DiskOf D)
     (shelf : Shelf) (d : D) where
   pub none_appended : HasAppended disk (shelf_on shelf d) [] d
   none_appended = record {
-    told = λ t. t;
-    untold = λ t. t;
+    tell = tells_still;
     count = refl;
     none = λ is. refl;
     outside = λ t. record { before = refl; after = refl };
@@ -102,7 +102,7 @@ module _ {D : Type 0} (disk : DiskOf D) (shelf : Shelf) (d : D) (files : List Pl
         (weaker disk.moment disk.left_since mid d'
         (StaysOutside (last_gate (kept_by old)) (new_end (item_for placed) (kept_by old)) (disk.contents mid))
         (StaysOutside gate to' (disk.contents d)) (λ c one. outside_one c t one)
-        (adds.outside_any_moment (so_far.told t) (so_far.durable t only)))
+        (adds.outside_any_moment (so_far.tell.told t) (so_far.durable t only)))
 
   module _ (leaves_contents : (d : D) → disk.tells d → disk.may_leave d (disk.contents d))
       (counts_now : (d : D) (t : ℕ) (c : List ℕ) → disk.tells d → t ≤ disk.moment d → disk.may_leave d c
@@ -111,7 +111,7 @@ module _ {D : Type 0} (disk : DiskOf D) (shelf : Shelf) (d : D) (files : List Pl
     settled_mid : (initial : InitialShelf) → IsSettledOn initial [] disk shelf d
         → IsSettledOn initial files disk old mid
     settled_mid initial s = record {
-      told = so_far.told s.told;
+      told = so_far.tell.told s.told;
       kept = keeps initial s;
       on_disk = (so_far.on initial s).0;
     }
@@ -135,18 +135,18 @@ module _ {D : Type 0} (disk : DiskOf D) (shelf : Shelf) (d : D) (files : List Pl
         ∙ ap (way_with (head_of_item (item_for placed))) way_is
         ∙ sym (way_with_files-push files placed (kept_by shelf).way) in
         record {
-          told = λ t. adds.calls.told (so_far.told t);
-          untold = λ t. so_far.untold (adds.calls.untold t);
+          tell = tells_both so_far.tell adds.calls.tell;
           count = adds.calls.counted ∙ so_far.count;
           none = λ is. absurd (omega (
             arith,
             ap (λ (l : List Placed). length l) is,
             length-append files (placed ∷ []),
           ));
-          outside = λ t. outside_one (disk.contents d') t (adds.outside (so_far.told t));
-          durable = λ t only. adds.durable (so_far.told t);
+          outside = λ t. outside_one (disk.contents d') t (adds.outside (so_far.tell.told t));
+          durable = λ t only. adds.durable (so_far.tell.told t);
           outside_any_moment = λ t only. outside_moments (Ok answer) adds t only;
-          way = λ t keeps. subst (IsWay (disk.contents d')) way (adds.on_way.way (so_far.told t) (keeps_way t keeps));
+          way = λ t keeps. subst (IsWay (disk.contents d')) way
+              (adds.on_way.way (so_far.tell.told t) (keeps_way t keeps));
           on = λ initial s. (
             (settled_on disk leaves_contents counts_now files placed old new mid d' answer adds initial
                 (settled_mid initial s)).on_disk,
@@ -159,15 +159,14 @@ module _ {D : Type 0} (disk : DiskOf D) (shelf : Shelf) (d : D) (files : List Pl
         → Adds disk {A = A} (item_for placed) (shelf_on old mid) (shelf_on new d') (Err Disk)
         → MayHaveAppended disk (shelf_on shelf d) files placed d'
     one_failed adds = record {
-      told = λ t. adds.calls.told (so_far.told t);
-      untold = λ t. so_far.untold (adds.calls.untold t);
+      tell = tells_both so_far.tell adds.calls.tell;
       later = subst (λ (n : ℕ). n ≤ disk.faults d') so_far.count adds.calls.counted.0;
       rose = subst (λ (n : ℕ). Rose n (disk.faults d')) so_far.count adds.calls.counted.1;
-      outside = λ t. outside_one (disk.contents d') t (adds.outside (so_far.told t));
+      outside = λ t. outside_one (disk.contents d') t (adds.outside (so_far.tell.told t));
       outside_any_moment = λ t only. outside_moments (Err Disk) adds t only;
       way = λ t keeps.
           subst (λ (w : Way). HasEitherWay w (item_for placed) (disk.contents d')) way_is
-          (adds.on_way.either (so_far.told t) (keeps_way t keeps));
+          (adds.on_way.either (so_far.tell.told t) (keeps_way t keeps));
       on = λ initial s.
           let before = settled_mid initial s in (
             record {

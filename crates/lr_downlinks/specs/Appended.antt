@@ -2,6 +2,7 @@
 use Rattle.std.specs.Prelude.{◌≡◌, ◌≤◌, List, [], ◌∷◌, ◌++◌}
 use Rattle.lr_bits.specs.Faults.{Rose}
 use Rattle.lr_bits.specs.declared.placed.Placed.{Placed}
+use Rattle.lr_bits.specs.Telling.{KeepsTelling}
 use Rattle.lr_disk.specs.declared.disk.Disk.{Ghosts as DiskOf}
 use Rattle.lr_disk.specs.Pending.{EachImageSince, NothingPending}
 use Rattle.lr_shelf_format.specs.Way.{IsWay}
@@ -18,8 +19,7 @@ module _ {D : Type 0} (disk : DiskOf D) where
   module _ (first : ShelfOn D) (files : List Placed) where
     -- these files were appended
     pub record HasAppended (d' : D) : Type 0 where
-      pub told : disk.tells first.disk → disk.tells d'
-      pub untold : disk.tells d' → disk.tells first.disk
+      pub tell : KeepsTelling (disk.tells first.disk) (disk.tells d')
       pub count : disk.faults d' ≡ disk.faults first.disk
       -- where there is none, the disk is as it was
       pub none : files ≡ [] → d' ≡ first.disk
@@ -43,8 +43,7 @@ module _ {D : Type 0} (disk : DiskOf D) where
 
     -- these files were appended, and the disk failed in the next one: it is there, or it isn't
     pub record MayHaveAppended (placed : Placed) (d' : D) : Type 0 where
-      pub told : disk.tells first.disk → disk.tells d'
-      pub untold : disk.tells d' → disk.tells first.disk
+      pub tell : KeepsTelling (disk.tells first.disk) (disk.tells d')
       pub later : disk.faults first.disk ≤ disk.faults d'
       pub rose : Rose (disk.faults first.disk) (disk.faults d')
       -- over every disk that tells its contents

@@ -179,7 +179,7 @@ pub extern "C" fn lr_run(
         (world_and_err (world_of ⟦<LentSource<'static> as Source>⟧ ⟦<MemDisk as Disk>⟧ ⟦<MemSink as Sink>⟧)
         ⟦<MemSink as Sink>⟧)
         (lent_to_call (words_in words.now) input.now shelf.now calls (length out.old) (length err.old)
-            (length kept.old))
+        (length kept.old))
         result counts.new (rooms out.old err.old kept.old) (rooms out.new err.new kept.new) }
     ensures no_text { (result ≡ no_text_given) ↔ (IsUtf8 words.now → ⊥) }
     ensures no_room { (result ≡ no_room) ↔ (IsUtf8 words.now × (length kept.old < length shelf.now)) }

@@ -90,7 +90,7 @@ change_each size m log e job a b old has is new i = dite (ℕ_discrete i job)
 
 put_each : (size : RingSize) (m : Machine) (log : List Entry) → Story size m log → (i : ℕ)
     → Lived size m.taken i (get_elem? (m.stages ++ Ready ∷ []) i)
-        (life_of i (log ++ log_entry Put (length m.stages) ∷ []))
+    (life_of i (log ++ log_entry Put (length m.stages) ∷ []))
 put_each size m log old i = let job : ℕ = length m.stages in dite (ℕ_discrete i job)
     (λ x. subst (λ (z : ℕ). Lived size m.taken z (get_elem? (m.stages ++ Ready ∷ []) z)
     (life_of z (log ++ log_entry Put job ∷ []))) (sym x)
@@ -127,7 +127,7 @@ take_each : (size : RingSize) (m : Machine) (log : List Entry) → Story size m 
     → Lived size (m.taken + 1) i (get_elem? m.stages i) (life_of i (log ++ log_entry Take m.taken ∷ []))
 take_each size m log old is i = let t : ℕ = m.taken in dite (ℕ_discrete i t)
     (λ x. subst (λ (z : ℕ). Lived size (t + 1) z (get_elem? m.stages z)
-        (life_of z (log ++ log_entry Take t ∷ []))) (sym x)
+    (life_of z (log ++ log_entry Take t ∷ []))) (sym x)
     (subst (λ o. Lived size (t + 1) t o (life_of t (log ++ log_entry Take t ∷ []))) (sym is)
     (let l : Lived size t t (some Done) (life_of t log) =
     subst (λ o. Lived size t t o (life_of t log)) is (old.each t) in (

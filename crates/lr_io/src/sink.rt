@@ -1,6 +1,7 @@
 //! Where bytes go: into memory, to a writer, and nowhere.
 ghost use Rattle.std.specs.Prelude.{◌≡◌, ◌≤◌, ◌<◌, ◌++◌, List, [], ℕ, length, take, IfOk, OnOk, OnErr, vec_capacity};
 ghost use Rattle.lr_bits.specs.Faults.{HasCause, WritesAtOnce};
+ghost use Rattle.lr_bits.specs.Telling.{KeepsTelling};
 ghost use Rattle.std.specs.Io.KnownBytes.{Appends};
 ghost use Rattle.lr_io.specs.Pieces.{AppendsPrefix, PutsPart};
 
@@ -27,8 +28,7 @@ pub trait Sink {
         ensures cause { HasCause (faults self.old) (faults self.new) result }
         ensures some { IfOk result (λ n. 0 < n) }
         ensures within { IfOk result (λ n. n ≤ length piece.now) }
-        ensures told { tells self.old → tells self.new }
-        ensures untold { tells self.new → tells self.old }
+        ensures tell { KeepsTelling (tells self.old) (tells self.new) }
         ensures appended { tells self.old
             → IfOk result (λ n. contents self.new ≡ contents self.old ++ take n piece.now) }
         ensures failed { tells self.old → OnErr result (contents self.new ≡ contents self.old) };
@@ -37,8 +37,7 @@ pub trait Sink {
 /// Appends all bytes. Where it fails a prefix of them that isn't all of them was appended.
 pub fn put_all<O: Sink>(sink: &mut O, bytes: &[u8]) -> Result<(), Failed>
     ensures cause { HasCause (O.faults sink.old) (O.faults sink.new) result }
-    ensures told { O.tells sink.old → O.tells sink.new }
-    ensures untold { O.tells sink.new → O.tells sink.old }
+    ensures tell { KeepsTelling (O.tells sink.old) (O.tells sink.new) }
     ensures appended { O.tells sink.old → OnOk result (O.contents sink.new ≡ O.contents sink.old ++ bytes.now) }
     ensures failed { O.tells sink.old → OnErr result (PutsPart bytes.now (O.contents sink.old) (O.contents sink.new)) }
 {

@@ -1,6 +1,7 @@
 //! Where bytes come from: in memory, and from a reader.
 ghost use Rattle.std.specs.Prelude.{◌≡◌, ◌↔◌, ◌≤◌, ◌<◌, ◌++◌, List, [], ℕ, Result, length, take, IfOk, OnErr};
 ghost use Rattle.lr_bits.specs.Faults.{HasCause};
+ghost use Rattle.lr_bits.specs.Telling.{KeepsTelling};
 ghost use Rattle.lr_bits.specs.declared.refusals.Failed.{Failed};
 
 use crate::Reader;
@@ -29,8 +30,7 @@ pub trait Source {
         requires { 0 < length into.old }
         ensures cause { HasCause (faults self.old) (faults self.new) result }
         ensures within { IfOk result (λ n. n ≤ length into.new) }
-        ensures told { tells self.old → tells self.new }
-        ensures untold { tells self.new → tells self.old }
+        ensures tell { KeepsTelling (tells self.old) (tells self.new) }
         ensures moved { tells self.old → IfOk result (λ n. left self.old ≡ take n into.new ++ left self.new) }
         ensures ended { tells self.old → IfOk result (λ n. (n ≡ 0) ↔ (left self.old ≡ [])) }
         ensures failed { tells self.old → OnErr result (left self.new ≡ left self.old) }

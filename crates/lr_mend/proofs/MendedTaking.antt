@@ -102,7 +102,7 @@ mended_files-append before (x ∷ xs) ys =
 
 pub takes_none : (before : List Mended) (kept : KeptFiles) (noted : List ((ℕ × ℕ) × Seams)) (old : List MarkedFile) →
     FilesStandFor kept (map packet_mended before) → SeamsStandFor noted before
-        → TakesMended before [] kept noted old old
+    → TakesMended before [] kept noted old old
 takes_none before kept noted old files seams =
     record {
       files = subst (λ (ms : List Mended). FilesStandFor kept (map packet_mended ms)) (sym (append-nil before)) files;
@@ -199,7 +199,7 @@ pub stands_more : (images : KeptImages) (files : KeptFiles) (seams : List ((ℕ 
     (packets : List Good) (p : Good) (file : Option MarkedFile) → images.most ≡ most →
     MenderStandsFor images (packets ++ p ∷ []) →
     TakesOneMended (mended_packets most packets ++ map filler_of (gap_before most packets p)) (came p) files
-        seams file →
+    seams file →
     MendedStandFor (kept_mended images files seams) (packets ++ p ∷ [])
 stands_more images files seams most packets p file same stands takes =
     let ms = mended_packets most packets in

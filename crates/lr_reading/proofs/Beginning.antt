@@ -2,6 +2,7 @@
 use Rattle.std.proofs.Common.{◌≡◌, ◌≤◌, ℕ, ℤ, Some, None, [], length, refl, sym, ap, ◌∙◌, inl, arith}
 use Rattle.std.proofs.Math.Seq.{drop-nil}
 use Rattle.std.proofs.lemmas.List.Elements.{All-nil}
+use Rattle.lr_bits.proofs.Telling.{tells_still}
 use Rattle.lr_conv.specs.declared.line.LineCode.{LineCode}
 use Rattle.lr_io.specs.declared.source.Source.{Ghosts as SourceOf}
 use Rattle.lr_lock.specs.Windows.{WindowView}
@@ -25,8 +26,7 @@ fed_begun source line limit now is fresh s = record {
   long = fresh.taken;
   few = omega (arith, fresh.taken);
   passed = omega (arith, fresh.taken, ap length fresh.stands.rest, ap length (drop-nil {A = ℤ} now.lock.place));
-  told = λ t. t;
-  untold = λ t. t;
+  tell = tells_still;
   moved = λ t. refl;
   asked = inl (refl, refl);
   going_on = λ e. (came_none source s, λ short. fresh.short);

@@ -6,6 +6,7 @@ use Rattle.std.specs.Prelude.{is_none}
 use Rattle.lr_bits.specs.Faults.{Rose}
 use Rattle.lr_bits.specs.declared.outcome.Outcome.{Outcome}
 use Rattle.lr_bits.specs.declared.sizes.TheConstants.{FRAME_SYMBOLS}
+use Rattle.lr_bits.proofs.Telling.{tells_both}
 use Rattle.lr_io.specs.declared.source.Source.{Ghosts as SourceOf}
 use Rattle.lr_lock.specs.declared.frame.Frame.{Frame}
 use Rattle.lr_lock.specs.Frames.{AreFrames, last_of}
@@ -106,9 +107,8 @@ module _ {S : Type 0} (symbols : SymbolSource S) where
           length-append before.state.lock.kept (symbols_of fed.piece),
           length-symbols_of fed.piece,
         );
-        told = λ told. fed.told (so.told told);
-        untold = λ told. so.untold (fed.untold told);
-        moved = λ told. so.moved told ∙ ap (λ (l : List ℕ). bytes ++ l) (fed.moved (so.told told))
+        tell = tells_both so.tell fed.tell;
+        moved = λ told. so.moved told ∙ ap (λ (l : List ℕ). bytes ++ l) (fed.moved (so.tell.told told))
             ∙ sym (append_assoc bytes fed.piece (source.left now.source));
         asked = inr (last_one source (λ given pieces. Unit {0}) bytes fed.piece (bytes ++ fed.piece) so_far.first
             before.source now.source so.moved came fed.asked refl tt);
@@ -139,7 +139,7 @@ module _ {S : Type 0} (symbols : SymbolSource S) where
 
     reason : (stop : Stop) (s' : S) → FeedsNoneFor source stop before.state before.source s'
         → EndsFor source stop (within before.state.most bytes) so_far.first s'
-    reason End s' why = (omega (arith, why.0, so.long), λ told. why.1 (so.told told), why.2 ∙ still)
+    reason End s' why = (omega (arith, why.0, so.long), λ told. why.1 (so.tell.told told), why.2 ∙ still)
     reason Limit s' why = (omega (arith, why.0, so.long), why.1 ∙ still)
     reason Fault s' why = (omega (arith, why.0, so.long), subst (λ k. Rose k (source.faults s')) still why.1)
 
@@ -161,9 +161,8 @@ module _ {S : Type 0} (symbols : SymbolSource S) where
           ap (λ (n : FeedState). n.taken) fed.same,
           ap (λ (n : FeedState). length n.lock.kept) fed.same,
         );
-        told = λ told. fed.told (so.told told);
-        untold = λ told. so.untold (fed.untold told);
-        moved = λ told. so.moved told ∙ ap (λ (l : List ℕ). bytes ++ l) (sym (fed.moved (so.told told)));
+        tell = tells_both so.tell fed.tell;
+        moved = λ told. so.moved told ∙ ap (λ (l : List ℕ). bytes ++ l) (sym (fed.moved (so.tell.told told)));
         asked = asked;
         going_on = λ e. absurd cc;
         ended = λ e. subst (λ (n : FeedState). EndsFor source stop (within n.most bytes) so_far.first now.source)
@@ -199,8 +198,7 @@ module _ {S : Type 0} (symbols : SymbolSource S) where
     long = so.long;
     few = so.few;
     passed = omega (arith, passed, so.passed);
-    told = so.told;
-    untold = so.untold;
+    tell = so.tell;
     moved = so.moved;
     asked = so.asked;
     going_on = λ e. so.going_on (sym finished ∙ e);

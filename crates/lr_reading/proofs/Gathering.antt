@@ -5,6 +5,7 @@ use Rattle.std.proofs.Common.{length-append, inl, inr, ⊎_elim}
 use Rattle.std.proofs.lemmas.List.{length-take-le, take-append-le}
 use Rattle.std.proofs.Math.Seq.{take-append-add}
 use borrow.Rule.Slice.PartMut.{put_mid, post_of}
+use Rattle.lr_bits.proofs.Telling.{tells_both, tells_still}
 use Rattle.lr_io.specs.declared.source.Source.{Ghosts as SourceOf}
 use Rattle.lr_reading.proofs.Asking.{came_none, came_on, came_once, last_one}
 use Rattle.lr_reading.specs.Gathering.{UnitState, Gathers, GathersOn}
@@ -48,8 +49,7 @@ module _ {S : Type 0} (source : SourceOf S) (n : ℕ) where
           ∙ ap (λ (g : UnitState). g.taken + length (take count into)) is;
       most = ap (λ (g : UnitState). g.most) is;
       few = few;
-      told = told;
-      untold = untold;
+      tell = record { told = told; untold = untold };
       moved = moved;
       in_need = inr (last_one source (λ given pieces. length (before.held ++ given) < n) [] (take count into)
           (take count into) s s s' (λ told. refl) (came_none source s) asked refl
@@ -89,8 +89,7 @@ module _ {S : Type 0} (source : SourceOf S) (n : ℕ) where
     taken = omega arith;
     most = refl;
     few = few;
-    told = λ t. t;
-    untold = λ t. t;
+    tell = tells_still;
     moved = λ t. refl;
     in_need = inl (refl, refl);
   }
@@ -109,9 +108,8 @@ module _ {S : Type 0} (source : SourceOf S) (n : ℕ) where
     taken = omega (arith, first.taken, second.taken, length-append first.piece second.piece);
     most = second.most ∙ first.most;
     few = second.few;
-    told = λ tells. second.told (first.told tells);
-    untold = λ tells. first.untold (second.untold tells);
-    moved = λ tells. first.moved tells ∙ ap (λ l. first.piece ++ l) (second.moved (first.told tells))
+    tell = tells_both first.tell second.tell;
+    moved = λ tells. first.moved tells ∙ ap (λ l. first.piece ++ l) (second.moved (first.tell.told tells))
         ∙ sym (append_assoc first.piece second.piece (source.left now.source));
     in_need = ⊎_elim no_more (λ last. inr (later last)) second.in_need;
   }
@@ -136,7 +134,7 @@ module _ {S : Type 0} (source : SourceOf S) (n : ℕ) where
         split = ap (λ (l : List ℕ). first.piece ++ l) last.split
             ∙ sym (append_assoc first.piece last.given last.piece);
         asked = last.asked;
-        moved = λ tells. first.moved tells ∙ ap (λ (l : List ℕ). first.piece ++ l) (last.moved (first.told tells))
+        moved = λ tells. first.moved tells ∙ ap (λ (l : List ℕ). first.piece ++ l) (last.moved (first.tell.told tells))
             ∙ sym (append_assoc first.piece last.given (source.left last.last));
         before = came_on source first.piece last.given before.source between.source last.last so_far.1 last.before;
         so = subst (λ (l : List ℕ). length l < n)

@@ -1,5 +1,6 @@
 -- Memory for reading was refused.
 use Rattle.std.proofs.Common.{◌<◌, List, [], ◌++◌, length, ap, refl, inl, arith}
+use Rattle.lr_bits.proofs.Telling.{tells_still}
 use Rattle.lr_reading.specs.Arrivals.{arrivals_of}
 use Rattle.lr_reading.specs.Runs.{Course, Lent, TakesSome}
 use Rattle.lr_reading.specs.declared.arrival.Arrival.{Arrival}
@@ -13,7 +14,7 @@ pub stops_at_once : {S C Cause : Type 0} (course : Course S C) → 0 < course.le
     → TakesSome course stopped cause now now
 stops_at_once course some stopped cause now stops = record {
   bytes = [];
-  read = record { told = λ t. t; untold = λ t. t; moved = λ t. refl; few = omega arith; asked = inl (refl, refl) };
+  read = record { tell = tells_still; moved = λ t. refl; few = omega arith; asked = inl (refl, refl) };
   passed = [];
   rest = [];
   split = no_arrivals course.input;

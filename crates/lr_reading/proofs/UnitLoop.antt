@@ -144,8 +144,7 @@ module _ {S C : Type 0} (source : SourceOf S) (took : C → List Arrival → C �
       units_stopped {Cause} stopped cause now' stops = record {
         bytes = concat so.units ++ next.held;
         read = record {
-          told = reads_now.told;
-          untold = reads_now.untold;
+          tell = reads_now.tell;
           moved = reads_now.moved;
           few = omega (arith, reads_now.few, reads_now.taken);
           asked = stops_asking source (λ given pieces. IsShortOfOne n so.units given)

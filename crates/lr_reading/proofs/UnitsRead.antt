@@ -5,6 +5,7 @@ use Rattle.std.specs.List.{concat}
 use Rattle.std.proofs.lemmas.List.Folds.{concat-append}
 use Rattle.std.proofs.lemmas.List.Elements.{All-nil, All-push}
 use Rattle.lr_bits.specs.Faults.{Rose}
+use Rattle.lr_bits.proofs.Telling.{tells_both, tells_still}
 use Rattle.lr_io.specs.declared.source.Source.{Ghosts as SourceOf}
 use Rattle.lr_forms.specs.declared.forms.Stop.{Stop}
 use Rattle.lr_forms.specs.declared.forms.Stop.TheVariants.{End, Limit, Fault}
@@ -31,8 +32,7 @@ module _ {S : Type 0} (source : SourceOf S) (sizes : UnitSizes) where
     taken = refl;
     most = refl;
     few = omega arith;
-    told = λ t. t;
-    untold = λ t. t;
+    tell = tells_still;
     moved = λ t. refl;
     going_on = came_none source s;
     in_need = inl (refl, refl);
@@ -58,7 +58,7 @@ module _ {S : Type 0} (source : SourceOf S) (sizes : UnitSizes) where
         ∙ sym more.taken
 
     moved : source.tells s → source.left s ≡ bytes ++ source.left now.source
-    moved tells = reads.moved tells ∙ ap (λ l. old ++ l) (more.moved (reads.told tells))
+    moved tells = reads.moved tells ∙ ap (λ l. old ++ l) (more.moved (reads.tell.told tells))
         ∙ sym (append_assoc old more.piece (source.left now.source)) ∙ ap (λ l. l ++ source.left now.source) same
 
     -- the last call is one that gathers more of a unit, if that makes any
@@ -80,7 +80,7 @@ module _ {S : Type 0} (source : SourceOf S) (sizes : UnitSizes) where
           piece = last.piece;
           split = sym same ∙ ap (λ (l : List ℕ). old ++ l) last.split ∙ sym (append_assoc old last.given last.piece);
           asked = last.asked;
-          moved = λ tells. reads.moved tells ∙ ap (λ (l : List ℕ). old ++ l) (last.moved (reads.told tells))
+          moved = λ tells. reads.moved tells ∙ ap (λ (l : List ℕ). old ++ l) (last.moved (reads.tell.told tells))
               ∙ sym (append_assoc old last.given (source.left last.last));
           before = came_on source old last.given s before.source last.last reads.going_on last.before;
           so = record {
@@ -102,8 +102,7 @@ module _ {S : Type 0} (source : SourceOf S) (sizes : UnitSizes) where
       short = short_of stop why;
       whole = reads.whole;
       read = record {
-        told = λ tells. more.told (reads.told tells);
-        untold = λ tells. reads.untold (more.untold tells);
+        tell = tells_both reads.tell more.tell;
         moved = moved;
         few = omega (arith, all, more.few, more.most, reads.most);
         asked = stops_asking source (λ given pieces. IsShortOfOne n units given) bytes s now.source needed;
@@ -123,7 +122,7 @@ module _ {S : Type 0} (source : SourceOf S) (sizes : UnitSizes) where
         reason_of : (x : Stop) → GathersFor source n (Ended x) before.source now
             → EndsFor source x (within sizes.limit bytes) s now.source
         reason_of End w =
-            (omega (arith, all, w.1, more.most, reads.most), λ tells. w.2 (reads.told tells), w.3 ∙ still)
+            (omega (arith, all, w.1, more.most, reads.most), λ tells. w.2 (reads.tell.told tells), w.3 ∙ still)
         reason_of Limit w = (omega (arith, all, w.1, more.most, reads.most), w.2 ∙ still)
         reason_of Fault w =
             (omega (arith, all, w.1, more.most, reads.most), subst (λ k. Rose k (source.faults now.source)) still w.2)
@@ -136,8 +135,7 @@ module _ {S : Type 0} (source : SourceOf S) (sizes : UnitSizes) where
     taken = sym (all reads gathers.0);
     most = gathers.0.most ∙ reads.most;
     few = omega (arith, gathers.0.few, gathers.0.most, reads.most);
-    told = λ tells. gathers.0.told (reads.told tells);
-    untold = λ tells. reads.untold (gathers.0.untold tells);
+    tell = tells_both reads.tell gathers.0.tell;
     moved = moved reads gathers.0;
     going_on = subst (λ (l : List ℕ). CameInPieces source l s now.source) (same reads gathers.0)
         (came_on source (concat units ++ before.state.held) gathers.0.piece s before.source now.source reads.going_on
@@ -155,8 +153,7 @@ module _ {S : Type 0} (source : SourceOf S) (sizes : UnitSizes) where
     taken = reads.taken ∙ ap length is;
     most = reads.most;
     few = reads.few;
-    told = reads.told;
-    untold = reads.untold;
+    tell = reads.tell;
     moved = λ tells. reads.moved tells ∙ ap (λ l. l ++ source.left now.source) is;
     going_on = subst (λ (l : List ℕ). CameInPieces source l s now.source) is reads.going_on;
     in_need = subst (λ (l : List ℕ). WhenLastAsked source

@@ -166,8 +166,7 @@ module _ {S C Cause : Type 0} (source : SourceOf S) (consumer : ConsumerOf C Cau
       record {
         bytes = at.bytes;
         read = record {
-          told = at.is_given.feeds.told;
-          untold = at.is_given.feeds.untold;
+          tell = at.is_given.feeds.tell;
           moved = at.is_given.feeds.moved;
           few = few_bytes;
           asked = at.is_given.feeds.asked;
@@ -218,8 +217,7 @@ module _ {S C Cause : Type 0} (source : SourceOf S) (consumer : ConsumerOf C Cau
     bytes = at.bytes;
     ends = record {
       read = record {
-        told = at.is_given.feeds.told;
-        untold = at.is_given.feeds.untold;
+        tell = at.is_given.feeds.tell;
         moved = at.is_given.feeds.moved;
         few = few_bytes;
         asked = at.is_given.feeds.asked;

@@ -3,6 +3,7 @@ use Rattle.std.specs.Prelude.{◌≡◌, ◌⊎◌, ◌<◌, ◌≤◌, ◌+◌,
 use Rattle.std.specs.Prelude.{None, List, [], ◌∷◌, ◌++◌, length, map, cond}
 use Rattle.lr_bits.specs.Faults.{Rose}
 use Rattle.lr_bits.specs.declared.sizes.TheConstants.{FRAME_SYMBOLS}
+use Rattle.lr_bits.specs.Telling.{KeepsTelling}
 use Rattle.lr_conv.specs.declared.line.LineCode.{LineCode}
 use Rattle.lr_conv.specs.Marker.{tail_of}
 use Rattle.lr_io.specs.declared.source.Source.{Ghosts as SourceOf}
@@ -124,8 +125,7 @@ module _ {S : Type 0} (source : SourceOf S) where
     pub most_stays : now.state.most ≡ before.state.most
     pub few : now.state.taken ≤ now.state.most
     pub fits : length now.state.lock.kept ≤ lock_symbols
-    pub told : source.tells before.source → source.tells now.source
-    pub untold : source.tells now.source → source.tells before.source
+    pub tell : KeepsTelling (source.tells before.source) (source.tells now.source)
     pub moved : source.tells before.source → source.left before.source ≡ piece ++ source.left now.source
     pub kept : source.faults now.source ≡ source.faults before.source
     pub asked : AsksOnce source before.source piece now.source
@@ -140,8 +140,7 @@ module _ {S : Type 0} (source : SourceOf S) where
   -- nothing was fed
   pub record FeedsNone (stop : Stop) (before now : AtSource FeedState S) : Type 0 where
     pub same : now.state ≡ before.state
-    pub told : source.tells before.source → source.tells now.source
-    pub untold : source.tells now.source → source.tells before.source
+    pub tell : KeepsTelling (source.tells before.source) (source.tells now.source)
     pub moved : source.tells before.source → source.left now.source ≡ source.left before.source
     pub why : FeedsNoneFor stop before.state before.source now.source
     pub asked : (now.source ≡ before.source) ⊎ AsksOnce source before.source [] now.source
@@ -158,8 +157,7 @@ module _ {S : Type 0} (symbols : SymbolSource S) where
     pub long : now.state.taken ≡ length so_far.bytes
     pub few : now.state.taken ≤ now.state.most
     pub passed : FRAME_SYMBOLS * length so_far.given + length now.state.lock.kept ≤ now.state.taken
-    pub told : symbols.source.tells so_far.first → symbols.source.tells now.source
-    pub untold : symbols.source.tells now.source → symbols.source.tells so_far.first
+    pub tell : KeepsTelling (symbols.source.tells so_far.first) (symbols.source.tells now.source)
     pub moved : symbols.source.tells so_far.first
         → symbols.source.left so_far.first ≡ so_far.bytes ++ symbols.source.left now.source
     pub asked : StopsAsking symbols.source so_far.bytes so_far.first now.source

@@ -2,6 +2,7 @@
 use Rattle.std.specs.Prelude.{◌≡◌, ◌⊎◌, ◌<◌, ◌≤◌, ◌+◌, ℕ, List, [], ◌++◌, length, All}
 use Rattle.std.specs.List.{concat}
 use Rattle.lr_bits.specs.Faults.{Rose}
+use Rattle.lr_bits.specs.Telling.{KeepsTelling}
 use Rattle.lr_io.specs.declared.source.Source.{Ghosts as SourceOf}
 use Rattle.lr_forms.specs.declared.forms.Stop.{Stop}
 use Rattle.lr_forms.specs.declared.forms.Stop.TheVariants.{End, Limit, Fault}
@@ -59,8 +60,7 @@ module _ {S : Type 0} (source : SourceOf S) where
     pub taken : now.state.taken ≡ before.state.taken + length piece
     pub most : now.state.most ≡ before.state.most
     pub few : now.state.taken ≤ now.state.most
-    pub told : source.tells before.source → source.tells now.source
-    pub untold : source.tells now.source → source.tells before.source
+    pub tell : KeepsTelling (source.tells before.source) (source.tells now.source)
     pub moved : source.tells before.source → source.left before.source ≡ piece ++ source.left now.source
     pub in_need : ((piece ≡ []) × (now.source ≡ before.source))
         ⊎ LastCall source (λ given pieces. length (before.state.held ++ given) < n) piece before.source now.source
@@ -81,8 +81,7 @@ module _ {S : Type 0} (source : SourceOf S) where
     pub taken : now.state.taken ≡ length (concat units ++ now.state.held)
     pub most : now.state.most ≡ sizes.limit
     pub few : now.state.taken ≤ sizes.limit
-    pub told : source.tells s → source.tells now.source
-    pub untold : source.tells now.source → source.tells s
+    pub tell : KeepsTelling (source.tells s) (source.tells now.source)
     pub moved : source.tells s → source.left s ≡ (concat units ++ now.state.held) ++ source.left now.source
     pub going_on : CameInPieces source (concat units ++ now.state.held) s now.source
     pub in_need : WhenLastAsked source (λ given pieces. IsShortOfOne sizes.unit units given)

@@ -4,6 +4,7 @@ use Rattle.std.specs.Prelude.{drop, map, Result, Ok, Err}
 use Rattle.std.specs.List.{concat, range_with_len}
 use Rattle.lr_bits.specs.Faults.{Rose}
 use Rattle.lr_bits.specs.declared.refusals.Failed.{Failed}
+use Rattle.lr_bits.specs.Telling.{KeepsTelling}
 use Rattle.lr_io.specs.declared.source.Source.{Ghosts as SourceOf}
 use Rattle.lr_forms.specs.declared.forms.Stop.{Stop}
 use Rattle.lr_forms.specs.declared.forms.Stop.TheVariants.{End, Limit, Fault}
@@ -68,8 +69,7 @@ module _ {S : Type 0} (source : SourceOf S) where
 
   -- these bytes were taken, at most this many, up to the first call that gave none
   pub record IsRead (limit : ℕ) (bytes : List ℕ) (s s' : S) : Type 0 where
-    pub told : source.tells s → source.tells s'
-    pub untold : source.tells s' → source.tells s
+    pub tell : KeepsTelling (source.tells s) (source.tells s')
     pub moved : source.tells s → source.left s ≡ bytes ++ source.left s'
     pub few : length bytes ≤ limit
     pub asked : StopsAsking bytes s s'

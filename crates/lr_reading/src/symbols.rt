@@ -1,6 +1,7 @@
 //! The symbols of the input are taken to the windows of its frames, however its reads are cut.
 ghost use Rattle.std.specs.Prelude.{◌≡◌, ◌↔◌, ◌<◌, ◌≤◌, ◌++◌, [], length, take, IfOk, OnErr};
 ghost use Rattle.lr_bits.specs.Faults.{HasCause};
+ghost use Rattle.lr_bits.specs.Telling.{KeepsTelling};
 ghost use Rattle.lr_lock.specs.declared.sizes.TheConstants.{WINDOW_END};
 ghost use Rattle.lr_reading.specs.Feeding.{most_kept};
 ghost use Rattle.lr_reading.specs.Reading.{AsksOnce};
@@ -34,8 +35,7 @@ fn take_within<S: Source>(source: &mut S, into: &mut [u8], size: usize) -> Resul
     requires room { size ≤ length into.old }
     ensures cause { HasCause (S.faults source.old) (S.faults source.new) result }
     ensures within { IfOk result (λ n. n ≤ size) }
-    ensures told { S.tells source.old → S.tells source.new }
-    ensures untold { S.tells source.new → S.tells source.old }
+    ensures tell { KeepsTelling (S.tells source.old) (S.tells source.new) }
     ensures moved { S.tells source.old → IfOk result (λ n. S.left source.old ≡ take n into.new ++ S.left source.new) }
     ensures ended { S.tells source.old → IfOk result (λ n. (n ≡ 0) ↔ (S.left source.old ≡ [])) }
     ensures failed { S.tells source.old → OnErr result (S.left source.new ≡ S.left source.old) }

@@ -52,6 +52,11 @@ cause_of (Crc' stored computed) = Refused BadChecksum
 cause_of NoMemory' = NoMemory
 cause_of Discarded' = Refused Discarded
 
+-- what a call on a shelf gave, or the cause of its error
+abbrev pub answer_by : {A : Type 0} → Result A ShelfError → Result A Cause
+answer_by (Ok given) = Ok given
+answer_by (Err error) = Err (cause_of error)
+
 -- what an entry gives, by what a shelf answers for it: its file, nothing where it is gone, or the error's cause
 abbrev pub IsFileOrGone : {A : Type 0} → Result A ShelfError → Result (Option A) Cause → Type 0
 IsFileOrGone (Ok file) given = given ≡ Ok (Some file)

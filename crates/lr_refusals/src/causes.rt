@@ -1,7 +1,7 @@
 //! The cause of each error.
 ghost use Rattle.std.specs.Prelude.{◌≡◌};
 ghost use Rattle.lr_causes.specs.Causes.{cause_of_fault};
-ghost use Rattle.lr_refusals.specs.Errors.{IsFileOrGone, assembly_fault, cause_of, image_fault};
+ghost use Rattle.lr_refusals.specs.Errors.{IsFileOrGone, answer_by, assembly_fault, cause_of, image_fault};
 
 use lr_causes::{Cause, ExportFault, Party, Refusal};
 use lr_image::ImageFault;
@@ -23,6 +23,17 @@ pub fn shelf_cause(error: ShelfError) -> Cause
         ShelfError::Crc { .. } => Cause::Refused(Refusal::BadChecksum),
         ShelfError::NoMemory => Cause::NoMemory,
         ShelfError::Discarded => Cause::Refused(Refusal::Discarded),
+    }
+}
+
+/// What a call on a shelf gave, or the cause of its error. So want of memory comes of that call's alone, and what it
+/// refuses keeps its own cause.
+pub fn shelf_answer<T>(answer: Result<T, ShelfError>) -> Result<T, Cause>
+    ensures { result ≡ answer_by answer }
+{
+    match answer {
+        Ok(given) => Ok(given),
+        Err(error) => Err(shelf_cause(error)),
     }
 }
 

@@ -6,4 +6,4 @@
 
 mod causes;
 
-pub use causes::{assembly_cause, file_or_gone, image_cause, shelf_cause};
+pub use causes::{assembly_cause, file_or_gone, image_cause, shelf_answer, shelf_cause};

@@ -3,6 +3,7 @@ use Rattle.std.proofs.Common.{◌≡◌, ◌≢◌, inl, inr, ℕ, ◌+◌, ◌�
 use Rattle.std.proofs.Common.{◌++◌, length, take, drop}
 use Rattle.std.proofs.Common.{Result, Ok, Err, refl, sym, ◌∙◌, ap, subst, arith, length-append}
 use Rattle.lr_bits.specs.Faults.{Rose}
+use Rattle.lr_bits.proofs.Telling.{tells_still}
 use Rattle.lr_disk.specs.declared.disk.Disk.{Ghosts as DiskOf}
 use Rattle.lr_disk.specs.Pending.{EachImageSince, NothingPending}
 use Rattle.lr_disk.proofs.Moments.{stays, weaker}
@@ -54,7 +55,7 @@ module _ {A : Type 0} {D : Type 0} (disk : DiskOf D)
   pub refused : (after : Shelf) (error : ShelfError) → error ≢ Disk → kept_by after ≡ kept_by shelf
       → Adds disk {A = A} item (shelf_on shelf d) (shelf_on after d) (Err error)
   refused after error other same = record {
-    calls = record { told = λ told. told; untold = λ told. told; counted = same_count A (disk.faults d) error other };
+    calls = record { tell = tells_still; counted = same_count A (disk.faults d) error other };
     untouched = inr (refl, same);
     failed = λ e. absurd (other (error_of _ _ e));
     working = tt;
@@ -154,7 +155,7 @@ module _ {D : Type 0} (disk : DiskOf D) (item : Item) (is : IsItem item) (shelf 
       → kept_by after ≡ kept_with item (kept_by shelf) → Adds disk {A = A} item (shelf_on shelf d)
       (shelf_on after d') (Ok answer)
   put {A = A} answer after count works stands durable done one = record {
-    calls = record { told = told; untold = untold; counted = count };
+    calls = record { tell = record { told = told; untold = untold }; counted = count };
     untouched = tt;
     failed = λ e. cc (e);
     working = works;
@@ -215,7 +216,7 @@ module _ {D : Type 0} (disk : DiskOf D) (item : Item) (is : IsItem item) (shelf 
       → kept_by after ≡ record (kept_by shelf) { failed = true }
       → Adds disk {A = A} item (shelf_on shelf d) (shelf_on after d') (Err Disk)
   stopped {A = A} after later rose left keeps = record {
-    calls = record { told = told; untold = untold; counted = (later, rose) };
+    calls = record { tell = record { told = told; untold = untold }; counted = (later, rose) };
     untouched = inl refl;
     failed = λ _. keeps;
     working = tt;

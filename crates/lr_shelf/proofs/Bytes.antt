@@ -36,8 +36,11 @@ fit_item bytes entry size extent front end =
 
 stored_by : Bool → List ℕ → Stored
 stored_by true bytes =
-    record { file = file_of_body (head_of (drop 1 bytes)) (drop 36 bytes); origin = Some
-        (origin_of_bytes (drop 12 bytes)) }
+    record {
+      file = file_of_body (head_of (drop 1 bytes)) (drop 36 bytes);
+      origin = Some
+          (origin_of_bytes (drop 12 bytes));
+    }
 stored_by false bytes = record { file = file_of_body (head_of bytes) (drop 11 bytes); origin = None }
 
 -- by the first byte of the item, an Add or an Old one

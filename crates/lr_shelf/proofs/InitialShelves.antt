@@ -177,7 +177,7 @@ module _ {D A : Type 0} (disk : DiskOf D)
       (placed ∷ [])))
       (adds.on_items.acknowledged capacity (with_files items done) (to_items disk done shelf d capacity items s)))
   settled_on answer adds (OfWay way old) s = record {
-    told = adds.calls.told s.told;
+    told = adds.calls.tell.told s.told;
     kept = record {
       way = ap (λ (k : KeptShelf). k.way) adds.kept ∙ ap (way_with (head_of_item (item_for placed))) s.kept.way
           ∙ sym (way_with_files-push done placed way);

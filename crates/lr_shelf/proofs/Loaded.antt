@@ -1,5 +1,6 @@
 -- A shelf that was loaded from its disk.
 use Rattle.std.proofs.Common.{◌≡◌, ℕ, List, Result, Ok, IfOk, OnOk, false, subst}
+use Rattle.lr_bits.specs.Telling.{KeepsTelling}
 use Rattle.lr_disk.specs.Pending.{NothingPending}
 use Rattle.lr_disk.specs.Reads.{IsOnlyRead}
 use Rattle.lr_disk.specs.declared.disk.Disk.{Ghosts as DiskOf}
@@ -14,8 +15,7 @@ use Rattle.lr_shelf.specs.declared.shelf.Shelf.{Shelf}
 
 -- The disk was only read, and the shelf that was loaded from it works.
 pub record IsReady {D : Type 0} (disk : DiskOf D) (d d' : D) (shelf : Shelf) : Type 0 where
-  pub told : disk.tells d → disk.tells d'
-  pub untold : disk.tells d' → disk.tells d
+  pub tell : KeepsTelling (disk.tells d) (disk.tells d')
   pub only_read : IsOnlyRead disk d d'
   pub count : disk.faults d' ≡ disk.faults d
   pub works : (kept_by shelf).failed ≡ false
@@ -28,8 +28,7 @@ module _ {D : Type 0} (disk : DiskOf D) where
   pub ready_loaded : (d d' : D) (result : Result Shelf ShelfError) (shelf : Shelf) → Loads disk d d' result
       → result ≡ Ok shelf → IsReady disk d d' shelf
   ready_loaded d d' result shelf loads is = record {
-    told = loads.calls.told;
-    untold = loads.calls.untold;
+    tell = loads.calls.tell;
     only_read = loads.only_read;
     count =
         subst (λ (r : Result Shelf ShelfError). IsFaultCounted (disk.faults d) (disk.faults d') r) is

@@ -197,10 +197,10 @@ module _ {D : Type 0} (disk : DiskOf D)
 
     pub either_left : (c : List ℕ) → disk.may_leave d' c → HasEitherAfter way old files placed c
     either_left c image =
-        either_moments.each c (counts_now d' (disk.moment d) c (adds.calls.told told) either_moments.later image)
+        either_moments.each c (counts_now d' (disk.moment d) c (adds.calls.tell.told told) either_moments.later image)
 
     pub either_now : HasEitherAfter way old files placed (disk.contents d')
-    either_now = either_left (disk.contents d') (leaves_contents d' (adds.calls.told told))
+    either_now = either_left (disk.contents d') (leaves_contents d' (adds.calls.tell.told told))
 
   -- the file was appended
   pub one_after : {A : Type 0} (answer : A) → Adds disk (item_for placed) (shelf_on shelf d) (shelf_on shelf' d')

@@ -13,7 +13,7 @@ module _ {D : Type 0} (disk : DiskOf D) where
       → (disk.faults d' ≡ disk.faults d → IsFaultCounted (disk.faults d) (disk.faults d') r)
       → OnlyReads disk d d' (Ok answer) → ReadsDisk disk d d' r
   run_ended d d' answer r counted reads = record {
-    calls = record { told = reads.told; untold = reads.untold; counted = counted reads.cause.kept };
+    calls = record { tell = reads.tell; counted = counted reads.cause.kept };
     only_read = reads.only_read;
     images = reads.kept;
   }
@@ -22,7 +22,7 @@ module _ {D : Type 0} (disk : DiskOf D) where
   pub run_failed : {S A : Type 0} (d d' : D) (failed : Failed) → OnlyReads disk {T = S} d d' (Err failed)
       → ReadsDisk disk {A = A} d d' (Err Disk)
   run_failed d d' failed reads = record {
-    calls = record { told = reads.told; untold = reads.untold; counted = (reads.cause.later, reads.cause.rose) };
+    calls = record { tell = reads.tell; counted = (reads.cause.later, reads.cause.rose) };
     only_read = reads.only_read;
     images = reads.kept;
   }

@@ -1,6 +1,7 @@
 -- What every call of a shelf keeps of its disk.
 use Rattle.std.specs.Prelude.{◌≡◌, ◌≤◌, ℕ, Result, Ok, Err}
 use Rattle.lr_bits.specs.Faults.{Rose}
+use Rattle.lr_bits.specs.Telling.{KeepsTelling}
 use Rattle.lr_disk.specs.Disk.{KeepsImages}
 use Rattle.lr_disk.specs.Reads.{IsOnlyRead}
 use Rattle.lr_disk.specs.declared.disk.Disk.{Ghosts as DiskOf}
@@ -15,8 +16,7 @@ IsFaultCounted before now (Err error) = now ≡ before
 
 module _ {D : Type 0} (disk : DiskOf D) {A : Type 0} (d d' : D) (result : Result A ShelfError) where
   pub record Calls : Type 0 where
-    pub told : disk.tells d → disk.tells d'
-    pub untold : disk.tells d' → disk.tells d
+    pub tell : KeepsTelling (disk.tells d) (disk.tells d')
     pub counted : IsFaultCounted (disk.faults d) (disk.faults d') result
 
   -- a call that asks for the length or reads, and does nothing else

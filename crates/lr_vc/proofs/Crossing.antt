@@ -115,7 +115,7 @@ module _ (run : Run) (f : ℕ × Fields) (zones : AreZones run) (long : length f
   -- (A) an open packet of the longer run was open, and goes on
   pub is_open_packet-more : (s : ℕ) → s < ZONE_BYTES * length run →
       is_open_packet (run ++ f ∷ []) s ≡ (is_open_packet run s && goes_on_after (drop s (zones_of run))
-          f.1.zone f.1.pointer)
+      f.1.zone f.1.pointer)
   unfolding goes_on_after
   is_open_packet-more s h =
       let Z = zones_of run in

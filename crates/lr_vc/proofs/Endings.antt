@@ -17,7 +17,7 @@ use Rattle.lr_vc.specs.Steps.{ends_with, goes_on_after, completed_packet, contin
 use Rattle.lr_vc.specs.Steps.{packets_inside, starts_unfinished}
 use Rattle.lr_vc.proofs.Grown.{AreZones, zones_of-more, length-zones_of, starts_in_zone-last, starts_of-more}
 use Rattle.lr_vc.proofs.Grown.{starts_of_within}
-use Rattle.lr_vc.proofs.Crossing.{is_open-more, ends_in_earlier, ends_in_new, is_open-last, ends_in-last}
+use Rattle.lr_vc.proofs.Crossing.{is_open_packet-more, ends_in_earlier, ends_in_new, is_open_packet-last, ends_in-last}
 use Rattle.lr_vc.proofs.Lists.{Each_weaker, Each-map, map_filter_same, filter_none}
 use Rattle.lr_vc.proofs.Starts.{packet_at-append, packet_at-behind, packet_at-drop, starts_from_within}
 
@@ -131,7 +131,7 @@ module _ (run : Run) (f : ℕ × Fields) (zones : AreZones run) (long : length f
       let F = λ (b : List ℕ). cond (ends_with b z p) (packet_at channel (b ++ z) 0 ∷ []) [] in
       let Q = λ (b : List ℕ). ends_with b z p in
       let old : map pk (filter E (starts_of run)) ≡ flat_map F
-          (map rest (filter (is_open_packet run) (starts_of run))) =
+      (map rest (filter (is_open_packet run) (starts_of run))) =
       flat_map_open F pk rest E (is_open_packet run) Q (starts_of run)
       (Each_weaker (λ s. s < n) (λ s. (E s ≡ (is_open_packet run s && Q (rest s))) ×
       (F (rest s) ≡ cond (Q (rest s)) (pk s ∷ []) []))
@@ -181,12 +181,15 @@ module _ (run : Run) (f : ℕ × Fields) (zones : AreZones run) (long : length f
       let F = λ (b : List ℕ). cond (goes_on_after b z p) ((b ++ z) ∷ []) [] in
       let U = λ (s : ℕ). not (is_whole z s) in
       let old : map pk (filter O (starts_of run)) ≡ flat_map F
-          (map rest (filter (is_open_packet run) (starts_of run))) =
+      (map rest (filter (is_open_packet run) (starts_of run))) =
       flat_map_open F pk rest O (is_open_packet run) Q (starts_of run)
       (Each_weaker (λ s. s < n) (λ s. (O s ≡ (is_open_packet run s && Q (rest s))) ×
       (F (rest s) ≡ cond (Q (rest s)) (pk s ∷ []) []))
-      (λ s h. (is_open_packet-more run f zones long s h, ap (λ k. cond (Q (rest s)) (k ∷ []) [])
-          (sym (drop_grown s h))))
+      (λ s h. (
+        is_open_packet-more run f zones long s h,
+        ap (λ k. cond (Q (rest s)) (k ∷ []) [])
+            (sym (drop_grown s h)),
+      ))
       (starts_of run) (starts_of_within run)) in
       let behind : (q : ℕ) → drop (n + q) (zones_of grown) ≡ drop q z =
       λ q. ap (λ zs. drop (n + q) zs) (zones_of-more run f) ∙ sym (drop-drop q n (zones_of run ++ z))

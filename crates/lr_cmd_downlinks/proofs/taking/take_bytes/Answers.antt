@@ -15,7 +15,7 @@ returns-in_err-extend-in-Ok-clause-refused g c =
     let room : c.pieces.size + c.in-Ok.count ≤ (MOST_BUNDLE_BYTES + 1) = search (rules, arith) in
     always_refused c.from_residual.result
     (wants_more g.S.Source bytes piece c.args.source.now c.pieces.source c.take.new.self c.pieces.invariant.so_far
-    c.take.ensures.told c.take.ensures.untold c.take.result c.take.ensures.asked
+    c.take.ensures.tell.told c.take.ensures.tell.untold c.take.result c.take.ensures.asked
     (subst (λ (r : Result ℕ Failed). HasGiven r piece) (sym c.in-Ok.is) size) c.in-Ok.ensures.moved
     (search (rules, arith)) (search (rules, arith))
     (omega (arith, length-append bytes piece, size, room, c.pieces.invariant.size)))
@@ -30,7 +30,8 @@ pieces-preserved g c =
     record {
       so_far = subst (λ (l : List ℕ). HasTaken g.S.Source l c.args.source.now c.take.new.self) (sym grown)
           (took_more g.S.Source bytes piece c.args.source.now c.pieces.source c.take.new.self
-          c.pieces.invariant.so_far c.take.ensures.told c.take.ensures.untold c.take.result c.take.ensures.asked
+          c.pieces.invariant.so_far c.take.ensures.tell.told c.take.ensures.tell.untold c.take.result
+          c.take.ensures.asked
           (subst (λ (r : Result ℕ Failed). HasGiven r piece) (sym c.in-Ok.is) size) c.in-Ok.ensures.moved
           (search (rules, arith)) (search (rules, arith)));
       size = omega (

@@ -1,5 +1,9 @@
-use Rattle.std.proofs.Common.{rules, ◌≡◌, ◌∷◌, []}
+use Rattle.std.proofs.Common.{rules, ◌≡◌, ◌∷◌, [], ℕ, Result, subst}
 use Rattle.std.proofs.lemmas.Result.{err_from_is_err_and}
+use Rattle.lr_shelf.specs.Append.{Appends}
+use Rattle.lr_shelf.specs.Kept.{shelf_on}
+use Rattle.lr_shelf.specs.declared.error.ShelfError.{ShelfError}
+use Rattle.lr_refusals.proofs.Answering.{given, refused}
 use Rattle.lr_cmd_receive.specs.Noted.{noted_file}
 use Rattle.lr_cmd_receive.specs.Shelving.{line_with}
 use Rattle.lr_causes.specs.declared.cause.Cause.TheVariants.{Failed}
@@ -19,17 +23,23 @@ returns-in_err-noted_line-clause-stopped g c =
 
 pub returns-in-Err-clause-stopped : goal.returns-in-Err-clause-stopped
 returns-in-Err-clause-stopped g c =
-    rw c.shelf_cause.ensures
+    let so = refused c.append.result c.shelf_answer.result c.shelf_answer.ensures c.in-Err.cause c.in-Err.is in
+    rw so.2
     (one_refused g.D.Disk g.met.D.Disk.leaves_contents g.met.D.Disk.counts_now g.O.Sink c.args.placed.now c.args.fillers
-    c.args.shelf.now c.append.new.self c.args.disk.now c.append.new.disk c.args.out.now c.in-Err.error
-    c.bytes.ensures.file c.in-Err.ensures)
+    c.args.shelf.now c.append.new.self c.args.disk.now c.append.new.disk c.args.out.now so.0 c.bytes.ensures.file
+    (subst (λ (r : Result ℕ ShelfError). Appends g.D.Disk c.args.placed.now
+    (shelf_on c.args.shelf.now c.args.disk.now) (shelf_on c.append.new.self c.append.new.disk) r) so.1
+    c.append.ensures))
 
 pub returns-clause-shelved : goal.returns-clause-shelved
 returns-clause-shelved g c =
     let is : c.as_slice.result.now ≡ line_with c.len.result c.args.placed.now.file c.args.fillers = search rules in
     if_ok_on c.put_text.result c.put_text.ensures.put
     (one_shelved g.D.Disk g.met.D.Disk.leaves_contents g.met.D.Disk.counts_now g.O.Sink c.args.placed.now c.args.fillers
-    c.args.shelf.now c.append.new.self c.args.disk.now c.append.new.disk c.args.out.now _ c.in-Ok.ensures
+    c.args.shelf.now c.append.new.self c.args.disk.now c.append.new.disk c.args.out.now _
+    (subst (λ (r : Result ℕ ShelfError). Appends g.D.Disk c.args.placed.now
+    (shelf_on c.args.shelf.now c.args.disk.now) (shelf_on c.append.new.self c.append.new.disk) r)
+    (given c.append.result c.shelf_answer.result c.shelf_answer.ensures _ c.in-Ok.is) c.append.ensures)
     c.len.result c.as_slice.result.now c.len.ensures is c.put_text.new.out)
 
 pub returns-clause-stopped : goal.returns-clause-stopped
@@ -41,5 +51,8 @@ returns-clause-stopped g c =
     (outlets c.append.new.disk c.put_text.new.out)) (Failed Output) c.put_text.result
     c.put_text.ensures.cause c.put_text.ensures.failed
     (one_cut g.D.Disk g.met.D.Disk.leaves_contents g.met.D.Disk.counts_now g.O.Sink c.args.placed.now c.args.fillers
-    c.args.shelf.now c.append.new.self c.args.disk.now c.append.new.disk c.args.out.now _ c.in-Ok.ensures
+    c.args.shelf.now c.append.new.self c.args.disk.now c.append.new.disk c.args.out.now _
+    (subst (λ (r : Result ℕ ShelfError). Appends g.D.Disk c.args.placed.now
+    (shelf_on c.args.shelf.now c.args.disk.now) (shelf_on c.append.new.self c.append.new.disk) r)
+    (given c.append.result c.shelf_answer.result c.shelf_answer.ensures _ c.in-Ok.is) c.append.ensures)
     c.len.result c.as_slice.result.now c.len.ensures is c.put_text.new.out)

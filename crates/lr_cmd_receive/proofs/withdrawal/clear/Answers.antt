@@ -7,6 +7,6 @@ returns-in_err-cut-clause-any_moment g c told durable =
 
 pub returns-clause-any_moment : goal.returns-clause-any_moment
 returns-clause-any_moment g c told durable =
-    let then = c.cut.ensures.told told in
+    let then = c.cut.ensures.tell.told told in
     cut_sync_moments g.D.Disk g.met.D.Disk.only_now told durable (c.cut.ensures.crash told) (c.cut.ensures.time told)
     then (c.sync.ensures.crash then) (c.sync.ensures.time then)

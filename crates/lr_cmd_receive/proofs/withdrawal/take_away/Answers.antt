@@ -18,7 +18,7 @@ returns-clause-ends g c told items durable =
     on_ok c.clear.result
     (gone g.D.Disk items c.args.disk.now c.is_first_gate_open.new.disk durable (read.reads.only_read.unwritten told)
     (λ is_open. cc (c.if-branch.false, (read.gate told long).1 is_open)) c.clear.new.disk)
-    (c.clear.ensures.cleared (read.reads.told told))
+    (c.clear.ensures.cleared (read.reads.tell.told told))
 
 pub returns-clause-any_moment : goal.returns-clause-any_moment
 returns-clause-any_moment g c told items durable =
@@ -27,7 +27,7 @@ returns-clause-any_moment g c told items durable =
     cleared_moments g.D.Disk items c.args.disk.now c.is_first_gate_open.new.disk durable
     (read.reads.only_read.unwritten told)
     (λ is_open. cc (c.if-branch.false, (read.gate told long).1 is_open)) c.clear.new.disk
-    (c.clear.ensures.any_moment (read.reads.told told))
+    (c.clear.ensures.any_moment (read.reads.tell.told told))
 
 pub returns-in_err-is_first_gate_open-clause-left : goal.returns-in_err-is_first_gate_open-clause-left
 returns-in_err-is_first_gate_open-clause-left g c told =
@@ -41,7 +41,7 @@ pub returns-clause-left : goal.returns-clause-left
 returns-clause-left g c told =
     let reads = c.in_ok-is_first_gate_open.ensures.reads in
     ⊎_elim (λ none. inl none) (λ same. inr (same ∙ (reads.only_read.unwritten told).contents))
-    (c.clear.ensures.left (reads.told told))
+    (c.clear.ensures.left (reads.tell.told told))
 
 pub returns-in_err-is_first_gate_open-clause-any_moment : goal.returns-in_err-is_first_gate_open-clause-any_moment
 returns-in_err-is_first_gate_open-clause-any_moment g c told items durable =

@@ -1,5 +1,6 @@
 use Rattle.std.proofs.Common.{◌≡◌, ◌∙◌, ◌+◌, ◌<◌, ◌^◌, sym, ap, refl, arith, length}
 use Rattle.std.proofs.lemmas.Result.{err_from_is_err_and}
+use Rattle.lr_bits.proofs.Telling.{tells_both, tells_still}
 use Rattle.lr_disk.proofs.Moments.{only_read_joined, only_read_yet}
 use Rattle.lr_shelf.specs.Kept.{KeptShelf, kept_by}
 use Rattle.lr_cmd_shelf.proofs.Texts.{on_err, on_noted, on_ok, on_sure}
@@ -17,8 +18,7 @@ returns-in_default-clause-stops g c =
 pub loop-number-init : goal.loop-number-init
 loop-number-init g c = record {
   kept = refl;
-  told = λ t. t;
-  untold = λ t. t;
+  tell = tells_still;
   reads = only_read_yet g.D.Disk g.met.D.Disk.only_now c.args.disk.now (g.met.D.Disk.reads_none c.args.disk.now);
   disk_count = refl;
   so_far =
@@ -46,9 +46,10 @@ returns-in_err-entry-clause-stops g c =
     let way = ap (λ (k : KeptShelf). k.way) inv.kept in
     let stops = rw way at (e.stops inv.so_far.read inv.so_far.gathered) in
     rw (p.1, p.2)
-    (entry_stopped g.D.Disk g.O.Sink query _ _ _ _ allowed _ _ _ _ c.entry.new.out inv.so_far inv.told inv.untold
-    inv.reads inv.disk_count g.met.D.Disk.reads_on c.entry.new.disk c.loop-number-test.true e.reads.told
-    e.reads.untold e.reads.only_read
+    (entry_stopped g.D.Disk g.O.Sink query _ _ _ _ allowed _ _ _ _ c.entry.new.out inv.so_far inv.tell.told
+    inv.tell.untold
+    inv.reads inv.disk_count g.met.D.Disk.reads_on c.entry.new.disk c.loop-number-test.true e.reads.tell.told
+    e.reads.tell.untold e.reads.only_read
     c.in_err-entry.field-0.0 stops (e.counted inv.so_far.read inv.so_far.gathered))
 
 pub loop-number-preserved : goal.loop-number-preserved
@@ -60,16 +61,15 @@ loop-number-preserved g c =
     let few : length inv.so_far.read + 1 < 2 ^ 64 = omega (arith, inv.so_far.few, c.loop-number-test.true) in
     record {
       kept = e.reads.kept ∙ inv.kept;
-      told = λ t. e.reads.told (inv.told t);
-      untold = λ t. inv.untold (e.reads.untold t);
+      tell = tells_both inv.tell e.reads.tell;
       reads = only_read_joined g.D.Disk g.met.D.Disk.reads_on c.args.disk.now c.loop-number.disk c.entry.new.disk
-          inv.told inv.reads e.reads.only_read;
+          inv.tell.told inv.reads e.reads.only_read;
       disk_count = e.same ∙ inv.disk_count;
       so_far =
           so_more g.D.Disk g.O.Sink query (kept_by c.args.shelf.now).way c.in-Some.range c.args.disk.now c.args.out.now
           (g.C.ReadsEntries.gathers c.args.command.now c.loop-number.gathered) c.loop-number.number c.loop-number.out
           c.entry.new.out inv.so_far c.loop-number-test.true c.loop-number.disk
-          inv.told (λ t. (inv.reads.unwritten t).contents)
+          inv.tell.told (λ t. (inv.reads.unwritten t).contents)
           (g.C.ReadsEntries.gathers c.args.command.now c.entry.new.gathered)
           c.entry.new.disk
           (rw way at (e.takes inv.so_far.read few inv.so_far.gathered));
@@ -83,7 +83,7 @@ returns-clause-takes g c =
     let way = ap (λ (k : KeptShelf). k.way) inv.kept in
     let takes = rw way at (c.last.ensures.takes inv.so_far.read inv.so_far.gathered) in
     on_noted c.last.result
-    (last_taken g.D.Disk g.O.Sink query _ _ _ _ allowed _ _ _ _ c.last.new.out inv.so_far inv.told inv.untold
+    (last_taken g.D.Disk g.O.Sink query _ _ _ _ allowed _ _ _ _ c.last.new.out inv.so_far inv.tell.told inv.tell.untold
     inv.reads inv.disk_count (c.loop-number.auto.number-end c.in-Some.ensures.ordered) c.loop-number-test.false)
     takes (c.last.ensures.tells inv.so_far.read inv.so_far.gathered)
 
@@ -96,7 +96,8 @@ returns-clause-stops g c =
     let stops = simp way at (c.last.ensures.stops inv.so_far.read inv.so_far.gathered) in
     let sure = rw way at (c.last.ensures.sure inv.so_far.read inv.so_far.gathered) in
     on_sure c.last.result
-    (last_stopped g.D.Disk g.O.Sink query _ _ _ _ allowed _ _ _ _ c.last.new.out inv.so_far inv.told inv.untold
+    (last_stopped g.D.Disk g.O.Sink query _ _ _ _ allowed _ _ _ _ c.last.new.out inv.so_far inv.tell.told
+    inv.tell.untold
     inv.reads inv.disk_count (c.loop-number.auto.number-end c.in-Some.ensures.ordered) c.loop-number-test.false)
     stops sure
 
@@ -126,7 +127,8 @@ returns-clause-gathers g c =
     let allowed = ap query.range (sym c.len-count.ensures) ∙ sym c.range.ensures.is ∙ c.in-Some.is in
     let way = ap (λ (k : KeptShelf). k.way) inv.kept in
     on_ok c.last.result
-    (λ puts. gathered_all g.D.Disk g.O.Sink query _ _ _ _ allowed _ _ _ _ c.last.new.out inv.so_far inv.told inv.untold
+    (λ puts. gathered_all g.D.Disk g.O.Sink query _ _ _ _ allowed _ _ _ _ c.last.new.out inv.so_far
+    inv.tell.told inv.tell.untold
     inv.reads inv.disk_count (c.loop-number.auto.number-end c.in-Some.ensures.ordered) c.loop-number-test.false puts
     (g.C.ReadsEntries.gathers c.args.command.now) c.loop-number.gathered inv.so_far.gathered)
     (rw way at (c.last.ensures.takes inv.so_far.read inv.so_far.gathered))

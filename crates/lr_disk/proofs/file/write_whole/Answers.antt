@@ -1,5 +1,6 @@
 use Rattle.std.proofs.Common.{◌<◌, ◌∙◌, arith, rules}
 use Rattle.std.proofs.lemmas.List.{take_rest}
+use Rattle.lr_bits.proofs.Telling.{tells_both}
 use Rattle.lr_disk.proofs.Pieces.{WrittenSoFar, elapsed_on, follows_on, torn_now, written_on}
 use Rattle.lr_disk.proofs.file.write_whole.Goals as goal
 
@@ -10,7 +11,7 @@ returns-in_err-count-clause-torn g c tells =
     (g.F.RandomAccessFile.contents c.loop-done.file) kept.within
     (take_rest c.args.bytes.now c.loop-done.done) (record { none = kept.none tells; some = kept.some tells })
     (g.F.RandomAccessFile.contents c.write_at.new.self)
-    (c.write_at.ensures.torn (kept.told tells))
+    (c.write_at.ensures.torn (kept.tell.told tells))
 
 pub returns-in_err-count-clause-crash : goal.returns-in_err-count-clause-crash
 returns-in_err-count-clause-crash g c tells =
@@ -19,7 +20,8 @@ returns-in_err-count-clause-crash g c tells =
     (g.F.RandomAccessFile.contents c.loop-done.file) kept.within
     (take_rest c.args.bytes.now c.loop-done.done) (record { none = kept.none tells; some = kept.some tells })
     (g.F.RandomAccessFile.may_leave c.args.file.now) (g.F.RandomAccessFile.may_leave c.loop-done.file)
-    (g.F.RandomAccessFile.may_leave c.write_at.new.self) (kept.crash tells) (c.write_at.ensures.crash (kept.told tells))
+    (g.F.RandomAccessFile.may_leave c.write_at.new.self) (kept.crash tells)
+    (c.write_at.ensures.crash (kept.tell.told tells))
 
 pub returns-then-count-eq0-clause-torn : goal.returns-then-count-eq0-clause-torn
 returns-then-count-eq0-clause-torn g c tells =
@@ -28,7 +30,7 @@ returns-then-count-eq0-clause-torn g c tells =
     (g.F.RandomAccessFile.contents c.loop-done.file) kept.within
     (take_rest c.args.bytes.now c.loop-done.done) (record { none = kept.none tells; some = kept.some tells })
     (g.F.RandomAccessFile.contents c.write_at.new.self)
-    (c.write_at.ensures.torn (kept.told tells))
+    (c.write_at.ensures.torn (kept.tell.told tells))
 
 pub returns-then-count-eq0-clause-crash : goal.returns-then-count-eq0-clause-crash
 returns-then-count-eq0-clause-crash g c tells =
@@ -37,7 +39,8 @@ returns-then-count-eq0-clause-crash g c tells =
     (g.F.RandomAccessFile.contents c.loop-done.file) kept.within
     (take_rest c.args.bytes.now c.loop-done.done) (record { none = kept.none tells; some = kept.some tells })
     (g.F.RandomAccessFile.may_leave c.args.file.now) (g.F.RandomAccessFile.may_leave c.loop-done.file)
-    (g.F.RandomAccessFile.may_leave c.write_at.new.self) (kept.crash tells) (c.write_at.ensures.crash (kept.told tells))
+    (g.F.RandomAccessFile.may_leave c.write_at.new.self) (kept.crash tells)
+    (c.write_at.ensures.crash (kept.tell.told tells))
 
 pub loop-done-preserved : goal.loop-done-preserved
 loop-done-preserved g c =
@@ -53,20 +56,19 @@ loop-done-preserved g c =
     let rest_is = take_rest c.args.bytes.now c.loop-done.done in
     record {
       within = search rules;
-      told = λ tells. call.told (kept.told tells);
-      untold = λ tells. kept.untold (call.untold tells);
-      errors = λ tells. (call.errors (kept.told tells)).none more ∙ kept.errors tells;
+      tell = tells_both kept.tell call.tell;
+      errors = λ tells. (call.errors (kept.tell.told tells)).none more ∙ kept.errors tells;
       none = λ tells no. absurd (omega arith);
       some = λ tells some.
           written_on c.args.at c.loop-done.done c.args.bytes.now _ (file.contents old) (file.contents mid) kept.within
           rest_is (so_far tells) c.in_ok-count.count (file.contents c.write_at.new.self)
-          (call.written (kept.told tells) more);
+          (call.written (kept.tell.told tells) more);
       crash = λ tells. follows_on c.args.at c.loop-done.done c.args.bytes.now _ (file.contents old) (file.contents mid)
           kept.within rest_is (so_far tells) (file.may_leave old) (file.may_leave mid)
           (file.may_leave c.write_at.new.self)
-          (kept.crash tells) (call.crash (kept.told tells));
-      kept = λ tells f image. call.kept (kept.told tells) f (kept.kept tells f image);
+          (kept.crash tells) (call.crash (kept.tell.told tells));
+      kept = λ tells f image. call.kept (kept.tell.told tells) f (kept.kept tells f image);
       time = λ tells. elapsed_on (file.left_since old) (file.left_since mid) (file.left_since c.write_at.new.self)
-          (file.may_leave mid) (file.may_leave c.write_at.new.self) (kept.time tells) (call.time (kept.told tells))
-          (call.kept (kept.told tells));
+          (file.may_leave mid) (file.may_leave c.write_at.new.self) (kept.time tells) (call.time (kept.tell.told tells))
+          (call.kept (kept.tell.told tells));
     }

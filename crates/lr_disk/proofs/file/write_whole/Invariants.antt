@@ -1,4 +1,5 @@
 use Rattle.std.proofs.Common.{◌≡◌, ◌+◌, ◌-◌, ◌≤◌, ◌<◌, length, take, min}
+use Rattle.lr_bits.specs.Telling.{KeepsTelling}
 use Rattle.lr_disk.specs.Disk.{Elapses, FollowsWrite, KeepsImages, Torn, Written}
 use Rattle.lr_disk.proofs.file.write_whole.Given as goal
 
@@ -8,8 +9,7 @@ invariant-loop-done g l =
     let old = l.fn.file in
     record {
       within : l.done ≤ length l.bytes;
-      told : file.tells old → file.tells l.file;
-      untold : file.tells l.file → file.tells old;
+      tell : KeepsTelling (file.tells old) (file.tells l.file);
       errors : file.tells old → file.errors l.file ≡ file.errors old;
       none : file.tells old → l.done ≡ 0 → file.contents l.file ≡ file.contents old;
       some : file.tells old → 0 < l.done

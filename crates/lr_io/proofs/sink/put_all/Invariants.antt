@@ -1,4 +1,5 @@
 use Rattle.std.proofs.Common.{◌≡◌, length}
+use Rattle.lr_bits.specs.Telling.{KeepsTelling}
 use Rattle.lr_io.proofs.Putting.{PutSoFar}
 use Rattle.lr_io.proofs.sink.put_all.Given as goal
 
@@ -7,8 +8,7 @@ invariant-loop-rest g l =
     let sink = g.O.Sink in
     record {
       kept : sink.faults l.sink ≡ sink.faults l.fn.sink;
-      told : sink.tells l.fn.sink → sink.tells l.sink;
-      untold : sink.tells l.sink → sink.tells l.fn.sink;
+      tell : KeepsTelling (sink.tells l.fn.sink) (sink.tells l.sink);
       so_far : sink.tells l.fn.sink → PutSoFar (sink.contents l.fn.sink) (sink.contents l.sink) l.bytes l.rest;
     }
 

@@ -40,9 +40,9 @@ returns-clause-found g c told =
     let long : c.from-2.result ≡ entry.extent = search rules in
     let first = c.add_up.ensures.reads in
     let second = c.checksum_of.ensures.reads in
-    let told2 = first.told told in
+    let told2 = first.tell.told told in
     let same2 = (first.only_read.unwritten told).contents in
-    let told3 = second.told told2 in
+    let told3 = second.tell.told told2 in
     let same3 = (second.only_read.unwritten told2).contents ∙ same2 in
     let computed : IsChecksumAt b item size (Some c.in-Some-2.computed) =
     subst (λ (n : ℕ). IsChecksumAt b item (n - 2) (Some c.in-Some-2.computed)) long

@@ -28,7 +28,7 @@ returns-in-Refused-clause-reads g c = λ led goes.
     let refused =
     subst
     (λ (cause : Cause). ReadStops g.D.Disk (way_of_source before) before.next cause before.disk.now
-        c.read_content.new.disk)
+    c.read_content.new.disk)
     c.in-Refused.is e.stops in
     reads_refusal g.D.Disk g.O.Sink g.met.D.Disk.reads_on goes _ refl refl refl e.reads refused.0 refl refl refl refl
     (omega (arith, c.requires.more, count_is g.D.Disk g.O.Sink goes)) c.in-Refused.refusal refl refused.1

@@ -13,7 +13,7 @@ returns-clause-gathered g c =
     let few : inside.taken + c.in_ok-count.count ≤ inside.most = search rules in
     piece_taken g.S.Source g.row.N c.args.source.now c.take.new.self c.args.self.now inside.buffer c.take.new.into
     inside.filled room c.in_ok-count.count inside.taken inside.most filled enough few
-    c.in_ok-count.ensures.told c.in_ok-count.ensures.untold c.in_ok-count.ensures.moved
+    c.in_ok-count.ensures.tell.told c.in_ok-count.ensures.tell.untold c.in_ok-count.ensures.moved
     (gave g.S.Source c.args.source.now c.take.new.self _ _ c.in_ok-count.ensures.asked
     (length-take-le c.in_ok-count.count c.take.new.into enough)) c.requires.room c.self.view_is
 
@@ -26,7 +26,7 @@ returns-clause-went_on g c some =
     let few : inside.taken + c.in_ok-count.count ≤ inside.most = search rules in
     piece_gathered g.S.Source g.row.N c.args.source.now c.take.new.self c.args.self.now inside.buffer c.take.new.into
     inside.filled room c.in_ok-count.count inside.taken inside.most filled enough few
-    c.in_ok-count.ensures.told c.in_ok-count.ensures.untold c.in_ok-count.ensures.moved
+    c.in_ok-count.ensures.tell.told c.in_ok-count.ensures.tell.untold c.in_ok-count.ensures.moved
     (gave g.S.Source c.args.source.now c.take.new.self _ _ c.in_ok-count.ensures.asked
     (length-take-le c.in_ok-count.count c.take.new.into enough)) c.requires.room c.self.view_is some
     c.in_ok-count.ensures.cause.kept
@@ -38,8 +38,8 @@ returns-in_err-count-clause-gathered g c =
     let filled : inside.filled ≤ length inside.buffer = search rules in
     let few : inside.taken ≤ inside.most = search rules in
     none_taken g.S.Source g.row.N c.args.source.now c.take.new.self c.args.self.now inside.buffer c.take.new.into
-    inside.filled room inside.taken inside.most filled few c.in_err-count.ensures.told
-    c.in_err-count.ensures.untold
+    inside.filled room inside.taken inside.most filled few c.in_err-count.ensures.tell.told
+    c.in_err-count.ensures.tell.untold
     (λ tells. sym (c.in_err-count.ensures.failed tells))
     (gave g.S.Source c.args.source.now c.take.new.self _ [] c.in_err-count.ensures.asked refl) c.requires.room
     c.self.view_is

@@ -53,7 +53,8 @@ returns-in-Ok g c =
     discard_ok g.D.Disk c.args.number old _ c.args.disk.now c.add.new.disk _
     (
     put g.D.Disk (discard_item c.args.number) c.ranges.number.fits old (askable.there, askable.stays) c.args.disk.now
-    c.add.new.disk c.discard_of-staged.result (omega arith) c.discard_of-staged.ensures add.call.told add.call.untold
+    c.add.new.disk c.discard_of-staged.result (omega arith) c.discard_of-staged.ensures add.call.tell.told
+    add.call.tell.untold
     add.outside add.outside_any_moment add.any_moment g.met.D.Disk.counts_now _ _ done.call.cause.kept askable.working
     done.stands done.durable done.added one
     )
@@ -68,8 +69,10 @@ returns-in-Err g c =
     discard_err g.D.Disk c.args.number old _ c.args.disk.now c.add.new.disk _
     (
     stopped g.D.Disk (discard_item c.args.number) c.ranges.number.fits old (askable.there, askable.stays)
-    c.args.disk.now c.add.new.disk c.discard_of-staged.result (omega arith) c.discard_of-staged.ensures add.call.told
-    add.call.untold add.outside add.outside_any_moment add.any_moment g.met.D.Disk.counts_now _ left.call.cause.later
+    c.args.disk.now c.add.new.disk c.discard_of-staged.result (omega arith) c.discard_of-staged.ensures
+    add.call.tell.told
+    add.call.tell.untold add.outside add.outside_any_moment add.any_moment g.met.D.Disk.counts_now _
+    left.call.cause.later
     left.call.cause.rose left.failed refl
     )
     (askable, omega arith)
