@@ -44,3 +44,9 @@ returns-clause-within c =
       least = λ s l. omega (arith, moved s l, first, c.requires.near 0 s (omega arith) l);
       most = λ s l. omega (arith, moved s l, first, c.requires.near s 0 l (omega arith));
     }
+
+pub returns-then-step-ne0-clause-within : goal.returns-then-step-ne0-clause-within
+returns-then-step-ne0-clause-within c = record {
+  least = λ s l. omega (arith, c.requires.within.least s l, c.if-step-ne0.true);
+  most = λ s l. omega (arith, c.requires.within.most s l, c.if-step-ne0.true);
+}
