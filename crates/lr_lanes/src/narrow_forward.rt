@@ -126,20 +126,23 @@ pub(crate) fn narrow_forward(
     requires filled { FILLING_STEPS ≤ steps }
     requires steps { steps ≤ MOST_STEPS }
     requires words { steps ≤ length words.old }
-    requires window { 2 * steps ≤ length window.now }
+    requires window { 2 * steps + 2 ≤ length window.now }
     ensures { IsDecided line window.now steps words.new result }
 {
     let (first_low, first_high) = lanes_of(&forward(line, window, FILLING_STEPS, words));
     let mut low = narrow_lanes_of(turned(first_low));
     let mut high = narrow_lanes_of(turned(first_high));
     let mut base = 0u32;
+    // The costs of a step are found in the turn before it, so that the sums needn't wait for them.
+    let mut costs = costs_at(line, window, FILLING_STEPS);
     for i in FILLING_STEPS..steps {
         let roomy = with_room(i, base, low, high);
-        let stepped = narrow_step(costs_at(line, window, i), roomy.low, roomy.high);
+        let stepped = narrow_step(costs, roomy.low, roomy.high);
         words[i] = stepped.word;
         base = roomy.base + u32::from(HALF_STEP);
         low = stepped.low;
         high = stepped.high;
+        costs = costs_at(line, window, i + 1);
     }
     all_costs(
         turned(state_costs(base, low)),

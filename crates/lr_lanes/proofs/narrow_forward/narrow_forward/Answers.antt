@@ -43,6 +43,8 @@ loop-i-init c =
     record {
       low_size = c.narrow_lanes_of-low.ensures.size;
       high_size = c.narrow_lanes_of-high.ensures.size;
+      costs_size = c.costs_at-costs.ensures.size;
+      costs = c.costs_at-costs.ensures.value;
       within =
           first_within c.forward.result c.lanes_of.result.0 c.lanes_of.result.1 c.turned.result c.turned-2.result low
           high c.lanes_of.ensures.low_size c.turned.ensures.size c.narrow_lanes_of-low.ensures.size
@@ -95,7 +97,7 @@ loop-i-preserved c =
     let held = c.loop-i.invariant in
     let roomy = c.with_room-roomy.result.low ++ c.with_room-roomy.result.high in
     let stepped = c.narrow_step-stepped.result.low ++ c.narrow_step-stepped.result.high in
-    let costs = c.costs_at.ensures.value in
+    let costs = c.loop-i.invariant.costs in
     let least = c.narrow_step-stepped.ensures.least (pair_costs_of line window i) costs in
     let steps_more : i % 32 + 1 ≡ (i + 1 + 31) % 32 + 1 = omega arith in
     let above =
@@ -105,6 +107,8 @@ loop-i-preserved c =
     record {
       low_size = c.narrow_step-stepped.ensures.low_size;
       high_size = c.narrow_step-stepped.ensures.high_size;
+      costs_size = c.costs_at-costs-in-loop-i.ensures.size;
+      costs = c.costs_at-costs-in-loop-i.ensures.value;
       within =
           subst (λ (n : ℕ). IsWithin n stepped) steps_more
           (further (pair_costs_of line window i) roomy stepped (i % 32) c.with_room-roomy.ensures.within costs.most
