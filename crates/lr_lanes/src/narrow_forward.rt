@@ -133,11 +133,13 @@ pub(crate) fn narrow_forward(
     let mut low = narrow_lanes_of(turned(first_low));
     let mut high = narrow_lanes_of(turned(first_high));
     let mut base = 0u32;
+    // All bits are set, as no slice has 2^63 elements, which the compiler doesn't make use of.
+    let ones = !(words.len() as u64 >> 63);
     // The costs of a step are found in the turn before it, so that the sums needn't wait for them.
     let mut costs = costs_at(line, window, FILLING_STEPS);
     for i in FILLING_STEPS..steps {
         let roomy = with_room(i, base, low, high);
-        let stepped = narrow_step(costs, roomy.low, roomy.high);
+        let stepped = narrow_step(costs, roomy.low, roomy.high, ones);
         words[i] = stepped.word;
         base = roomy.base + u32::from(HALF_STEP);
         low = stepped.low;

@@ -1,10 +1,11 @@
 //! What a step does to 32 lanes of sixteen bits at once. Each lane is that of a state by `lane_of`.
 
-ghost use Rattle.std.specs.Prelude.{◌≡◌, ◌+◌, ◌-◌, ◌*◌, ◌/◌, ◌%◌, ◌^◌, ◌<◌, ◌≤◌, ◌++◌, ◌==◌, ℕ, min, nat_lt};
+ghost use Rattle.std.specs.Prelude.{◌≡◌, ◌+◌, ◌-◌, ◌*◌, ◌/◌, ◌%◌, ◌^◌, ◌<◌, ◌≤◌, ◌++◌, ◌==◌, ℕ, min, nat_lt, not};
 ghost use Rattle.std.specs.Prelude.{length, slice_index};
 ghost use Rattle.std.specs.Int.{bit_at};
 ghost use Rattle.lr_lanes.specs.Lanes.{lane_of, lowered};
 
+use lr_trellis::decision_word;
 use std::simd::prelude::*;
 
 /// Where the states 0 to 31 stand in their lanes, and which states the lanes have: each of the two is the other.
@@ -52,7 +53,7 @@ pub(crate) fn other_path_costs(old: u16x32, costs: u16x32) -> u16x32
     old - costs
 }
 
-/// The lesser of the costs of two ways, lane by lane, and a bit for each state, set where it is the second. The first
+/// The lesser of the costs of two ways, lane by lane, and a bit for each state, set where it is the first. The first
 /// takes a tie.
 #[inline(always)]
 pub(crate) fn lesser_of(first: u16x32, second: u16x32) -> (u16x32, u64)
@@ -60,16 +61,29 @@ pub(crate) fn lesser_of(first: u16x32, second: u16x32) -> (u16x32, u64)
     requires second { length second ≡ 32 }
     ensures size { length result.0 ≡ 32 }
     ensures least { (k : ℕ) → k < 32 → slice_index result.0 k ≡ min (slice_index first k) (slice_index second k) }
-    ensures seconds { (k : ℕ) → k < 32 →
-        (bit_at result.1 k == 1) ≡ nat_lt (slice_index second (lane_of k)) (slice_index first (lane_of k)) }
+    ensures firsts { (k : ℕ) → k < 32 →
+        (bit_at result.1 k == 1) ≡ not (nat_lt (slice_index second (lane_of k)) (slice_index first (lane_of k))) }
     ensures small { result.1 < 2 ^ 32 }
 {
     let is_first = first.simd_le(second);
-    let seconds = (!is_first).to_simd().swizzle(TURNED);
+    let firsts = is_first.to_simd().swizzle(TURNED);
     (
         is_first.select(first, second),
-        seconds.simd_lt(i16x32::splat(0)).to_bitmask(),
+        firsts.simd_lt(i16x32::splat(0)).to_bitmask(),
     )
+}
+
+/// The word of a step's decisions, from the bits of where the first way is taken to the even states and to the odd ones.
+/// It is their complement. The compiler would take that of each lane if it knew that `ones` has all bits set.
+#[inline(always)]
+pub(crate) fn seconds_of(evens: u64, odds: u64, ones: u64) -> u64
+    requires evens { evens < 2 ^ 32 }
+    requires odds { odds < 2 ^ 32 }
+    requires ones { ones ≡ 2 ^ 64 - 1 }
+    ensures even { (k : ℕ) → k < 32 → (bit_at result k == 1) ≡ not (bit_at evens k == 1) }
+    ensures odd { (k : ℕ) → k < 32 → (bit_at result (k + 32) == 1) ≡ not (bit_at odds k == 1) }
+{
+    decision_word(evens, odds) ^ ones
 }
 
 /// Where the states 0 to 31 stand among the lanes of the even states and, after these, of the odd ones.
