@@ -1,4 +1,5 @@
 pub mod MarkedHeaders
 pub mod MarkedImages
 pub mod OnlyImages
+pub mod SentImages
 pub mod WholeImages

@@ -3,6 +3,7 @@
 ghost use Rattle.lr_mend_laws.specs.MarkedHeaders.{MarkedHeaders};
 ghost use Rattle.lr_mend_laws.specs.MarkedImages.{MarkedImages};
 ghost use Rattle.lr_mend_laws.specs.OnlyImages.{OnlyImages};
+ghost use Rattle.lr_mend_laws.specs.SentImages.{StandingFilesAreRead};
 ghost use Rattle.lr_mend_laws.specs.WholeImages.{MadeEnds};
 
 /// The header of a marked file is that of the file, with one record more at its end: an ancillary text with the mark.
@@ -23,4 +24,9 @@ pub fn only_images_have_fillers()
 /// An image whose lines aren't coded, and whose end fillers make, has all its pixels.
 pub fn made_ends_are_whole()
     ensures { MadeEnds }
+{}
+
+/// A file whose fillers can stand for the bodies in their places has an image where the file that was sent has one.
+pub fn standing_files_are_read()
+    ensures { StandingFilesAreRead }
 {}

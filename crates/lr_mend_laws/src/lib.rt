@@ -5,5 +5,5 @@ mod laws;
 
 pub use laws::{
     a_marked_file_has_one_record_more, a_marked_file_has_the_image_of_the_file,
-    made_ends_are_whole, only_images_have_fillers,
+    made_ends_are_whole, only_images_have_fillers, standing_files_are_read,
 };
