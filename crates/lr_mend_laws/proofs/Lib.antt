@@ -1,7 +1,12 @@
 pub mod CodedPieces
+pub mod MadeImages
 pub mod MarkedHeaders
 pub mod MarkedImages
 pub mod MarkedShapes
+pub mod MendedStretches
 pub mod OnlyImages
+pub mod SentHistories
+pub mod SentImages
+pub mod SentPackets
 pub mod StandingImages
 pub mod WholeImages

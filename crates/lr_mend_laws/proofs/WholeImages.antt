@@ -57,6 +57,7 @@ use Rattle.lr_mend.specs.MendedFiles.{files_of_gap, mended_file, mended_files_af
 use Rattle.std.specs.Prelude.{All}
 use Rattle.std.proofs.lemmas.List.Elements.{All-append, All-nil}
 use Rattle.lr_mend.specs.Seams.{seams_of}
+use Rattle.lr_mend_laws.specs.SentImages.{since_and, since_beginning as since}
 use Rattle.lr_mend_laws.specs.WholeImages.{MadeEnds}
 use Rattle.lr_mend_laws.proofs.OnlyImages.{SameLatest, all_of, same_latest}
 use Rattle.lr_mend.specs.Marks.{marked, whole_file}
@@ -64,18 +65,12 @@ use Rattle.lr_mend.specs.declared.marks.MarkedFile.{MarkedFile}
 use Rattle.lr_mend_laws.proofs.MarkedImages.{marked_images}
 use Rattle.lr_mend_laws.proofs.OnlyImages.{Grows, first_is, grows, latest, latest-one, latest-own, no_beginning}
 
-abbrev is_of_key : ℕ → ℕ → Good → Bool
+abbrev pub is_of_key : ℕ → ℕ → Good → Bool
 is_of_key vc apid p = eqb p.vc vc && eqb p.apid apid
 
 -- ---- the packets since the latest beginning
 
-abbrev since_and : List Good → Good → List Good
-since_and s p = cond (begins_file p) (p ∷ []) (s ++ p ∷ [])
-
-abbrev since : ℕ → ℕ → List Good → List Good
-since vc apid ps = fold since_and [] (packets_of_key vc apid ps)
-
-since-one : (vc apid : ℕ) (ps : List Good) (p : Good) (own : Bool) → is_of_key vc apid p ≡ own →
+pub since-one : (vc apid : ℕ) (ps : List Good) (p : Good) (own : Bool) → is_of_key vc apid p ≡ own →
     since vc apid (ps ++ p ∷ []) ≡ cond own (since_and (since vc apid ps) p) (since vc apid ps)
 since-one vc apid ps p true is =
     ap (fold since_and []) (filter-append (is_of_key vc apid) ps (p ∷ [])
@@ -86,7 +81,7 @@ since-one vc apid ps p false is =
     ∙ ap (λ (b : Bool). packets_of_key vc apid ps ++ cond b (p ∷ []) []) is
     ∙ append-nil (packets_of_key vc apid ps))
 
-since-own : (ps : List Good) (p : Good) → since p.vc p.apid (ps ++ p ∷ []) ≡ since_and (since p.vc p.apid ps) p
+pub since-own : (ps : List Good) (p : Good) → since p.vc p.apid (ps ++ p ∷ []) ≡ since_and (since p.vc p.apid ps) p
 since-own ps p = since-one p.vc p.apid ps p true (same_self p.vc p.apid)
 
 -- an open stretch is these
@@ -100,10 +95,10 @@ on_since : (s t : List Good) (p : Good) → begins_file p ≡ false → s ≡ t 
 on_since s t p none same =
     ap (λ l. l ++ p ∷ []) same ∙ sym (ap (λ (b : Bool). cond b (p ∷ []) (t ++ p ∷ [])) none)
 
-first_begins : (p : Good) → eqb p.flags 1 ≡ true → begins_file p ≡ true
+pub first_begins : (p : Good) → eqb p.flags 1 ≡ true → begins_file p ≡ true
 first_begins p one = ap (λ (b : Bool). b || eqb p.flags 3) one
 
-only_begins : (p : Good) → eqb p.flags 3 ≡ true → begins_file p ≡ true
+pub only_begins : (p : Good) → eqb p.flags 3 ≡ true → begins_file p ≡ true
 only_begins p three = ap (λ (b : Bool). eqb p.flags 1 || b) three ∙ or_true (eqb p.flags 1)
   where
     or_true : (b : Bool) → (b || true) ≡ true
@@ -180,7 +175,7 @@ size_of-append (x ∷ xs) ys =
 size_of-one : (p : Good) → size_of (p ∷ []) ≡ length p.body
 size_of-one p = ap length (append-nil p.body)
 
-filler_begins_none : (b : Bool) → (eqb (cond b 2 0) 1 || eqb (cond b 2 0) 3) ≡ false
+pub filler_begins_none : (b : Bool) → (eqb (cond b 2 0) 1 || eqb (cond b 2 0) 3) ≡ false
 filler_begins_none true = refl
 filler_begins_none false = refl
 
@@ -313,7 +308,7 @@ body_length image p plain =
 unit_is : (image : Image) (p : Good) → image.coded ≡ false → unit_of image p ≡ max 1 (length (filling_of image p))
 unit_is image p plain = ap (λ (b : Bool). max 1 (units_in b (filling_of image p))) plain
 
-some_filling : (most : ℕ) (image : Image) (p : Good) (k : ℕ) → fillers_before most image p ≡ suc k →
+pub some_filling : (most : ℕ) (image : Image) (p : Good) (k : ℕ) → fillers_before most image p ≡ suc k →
     0 < length (filling_of image p)
 unfolding can_fill
 some_filling most image p k many = by_can (can_fill image p) refl
@@ -336,7 +331,7 @@ units_same most image p plain (suc k) many =
 
 -- ---- one packet more
 
-begins_with : (p : Good) (image : Image) (k : Bool) (o : Option Opening) →
+pub begins_with : (p : Good) (image : Image) (k : Bool) (o : Option Opening) →
     cond k (option_map (image_begun_by p) o) None ≡ Some image →
     (opening : Opening) × ((o ≡ Some opening) × (image ≡ image_begun_by p opening))
 begins_with p image true None e = cc
@@ -348,7 +343,7 @@ goes_with : (p : Good) (old image : Image) (n : ℕ) (k : Bool) → cond k (Some
 goes_with p old image n true e = let h : image ≡ image_with old n p = cc in h
 goes_with p old image n false e = cc
 
-continued : (most : ℕ) (p : Good) (o : Option Image) (image : Image) → continued_image most o p ≡ Some image →
+pub continued : (most : ℕ) (p : Good) (o : Option Image) (image : Image) → continued_image most o p ≡ Some image →
     (old : Image) × ((o ≡ Some old) × (image ≡ image_with old (fillers_before most old p) p))
 continued most p None image e = cc
 continued most p (Some old) image e =
@@ -588,7 +583,7 @@ abbrev Whole : MarkedFile → Type 0
 Whole m = 0 < m.fillers → (picture : Picture) × IsImageOf m.file picture
 
 -- a packet with other flags than 2 or 3 ends no file
-ending_flags : (ps : List Good) (p : Good) (file : File) → p.flags ≡ 0 → file_at ps p ≡ Some file → ⊥
+pub ending_flags : (ps : List Good) (p : Good) (file : File) → p.flags ≡ 0 → file_at ps p ≡ Some file → ⊥
 unfolding file_at Grows
 ending_flags ps p file none e =
     let qs = packets_of_key p.vc p.apid ps in
@@ -719,7 +714,7 @@ module _ (filling : Filling) (begin : Good) (need : ℕ) (has : HasNeed begin.bo
 
 -- ---- the gap of an image that is over
 
-over_enough : (wanted unit n : ℕ) → 0 < unit → n ≡ max 1 ((wanted + unit - 1) / unit) → wanted ≤ unit * n
+pub over_enough : (wanted unit n : ℕ) → 0 < unit → n ≡ max 1 ((wanted + unit - 1) / unit) → wanted ≤ unit * n
 over_enough wanted unit n some is =
     let q = (wanted + unit - 1) / unit in
     let parts : q * unit + (wanted + unit - 1) % unit ≡ wanted + unit - 1 = div-add-mod' (wanted + unit - 1) unit in
@@ -733,7 +728,7 @@ if_many true m k e = refl
 if_many false m k e = absurd (omega (arith, e))
 
 -- where fillers come of an image that is over, they are as many as it needs
-number_is : (most : ℕ) (image : Image) (p : Good) (k : ℕ) → fillers_before most image p ≡ suc k →
+pub number_is : (most : ℕ) (image : Image) (p : Good) (k : ℕ) → fillers_before most image p ≡ suc k →
     is_over image p ≡ true → fillers_before most image p ≡ needed_before image p
 unfolding fillers_before
 number_is most image p k many over =

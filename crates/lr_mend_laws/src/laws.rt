@@ -3,7 +3,7 @@
 ghost use Rattle.lr_mend_laws.specs.MarkedHeaders.{MarkedHeaders};
 ghost use Rattle.lr_mend_laws.specs.MarkedImages.{MarkedImages};
 ghost use Rattle.lr_mend_laws.specs.OnlyImages.{OnlyImages};
-ghost use Rattle.lr_mend_laws.specs.SentImages.{StandingFilesAreRead};
+ghost use Rattle.lr_mend_laws.specs.SentImages.{MadeImagesAreRead, SentImagesAreRead, StandingFilesAreRead};
 ghost use Rattle.lr_mend_laws.specs.WholeImages.{MadeEnds};
 
 /// The header of a marked file is that of the file, with one record more at its end: an ancillary text with the mark.
@@ -29,4 +29,14 @@ pub fn made_ends_are_whole()
 /// A file whose fillers can stand for the bodies in their places has an image where the file that was sent has one.
 pub fn standing_files_are_read()
     ensures { StandingFilesAreRead }
+{}
+
+/// Where an image was sent, and its last packet and others came, the mended file that ends with that one has an image.
+pub fn sent_images_are_read()
+    ensures { SentImagesAreRead }
+{}
+
+/// Where an image was sent, and fillers stand for its last packets, the mended file has an image.
+pub fn made_images_are_read()
+    ensures { MadeImagesAreRead }
 {}
