@@ -1,18 +1,20 @@
 -- The mended packets of an image that was sent: as far as they are open, they stand for what was sent so far.
+use Rattle.std.proofs.Common.{◌*◌}
 use Rattle.std.proofs.Common.{◌≡◌, ℕ, zero, suc, ◌+◌, ◌-◌, ◌%◌, ◌<◌, ◌≤◌, Bool, true, false, cond, eqb, leb}
 use Rattle.std.proofs.Common.{not, ◌&&◌, Option, Some, None, List, [], ◌∷◌, ◌++◌, length, drop, refl, sym, ap}
 use Rattle.std.proofs.Common.{◌∙◌, subst, arith, append_assoc, length-append, inl, inr, min, replicate}
 use Rattle.std.specs.Prelude.{is_some}
 use Rattle.std.proofs.lemmas.Bool.Decides.{nat_tests}
 use Rattle.std.proofs.lemmas.List.{append-nil, length-replicate, map-append}
-use Rattle.std.proofs.Math.Nat.{mod-lt}
+use Rattle.std.proofs.Math.Nat.{mod-lt, suc-mul, zero-mul}
+use Rattle.std.specs.List.{concat}
 use Rattle.lr_bits.specs.declared.sizes.TheConstants.{SEQUENCE_COUNTS}
 use Rattle.lr_headers.specs.declared.fields.Structure.{Structure}
 use Rattle.lr_headers.specs.declared.fields.Lossless.{Lossless}
 use Rattle.lr_image.specs.Images.{line_form}
 use Rattle.lr_image.specs.Pieces.{piece_with}
 use Rattle.lr_packet.specs.Verdict.{Good}
-use Rattle.lr_file.specs.Files.{bodies_of, is_file, packets_of_key}
+use Rattle.lr_file.specs.Files.{bodies_of, is_file, packets_of_key, size_of}
 use Rattle.lr_file.specs.Standing.{is_open, last_count, open_from}
 use Rattle.lr_file.specs.Steps.{is_next}
 use Rattle.lr_file.proofs.Histories.{packets_of_key-own}
@@ -35,7 +37,8 @@ abbrev pub Fits : Structure → Option Lossless → ℕ → List ℕ → Type 0
 Fits s None size body = length body ≡ size
 Fits s (Some l) size body = HasLines (line_form s l) l.lines body
 
--- a file of an image, and how many pieces its lines take, where they are coded
+-- a file of an image: how many bytes stand before its data, and how many pieces its lines take where they are coded,
+-- or how many bytes
 pub record SentFile : Type 0 where
   pub s : Structure
   pub lossless : Option Lossless
@@ -51,6 +54,8 @@ pub record SentFile : Type 0 where
   pub fits : EachOf (λ p. p.flags ≡ 0 → Fits s lossless size p.body) whole
   pub skip : ℕ
   pub total : ℕ
+  pub inside : skip ≤ length first.body
+  pub plain : opening.coded ≡ false → skip + total ≤ length first.body + opening.wanted
   pub accounts : opening.coded ≡ true → total ≤ length (some_of (drop skip first.body ∷ [])) + opening.wanted
 
 -- how many pieces the bodies have
@@ -82,6 +87,9 @@ pub record Standing (c : SentFile) (most : ℕ) (packets : List Good) (vc apid :
   pub enough : (image : Image) (t : List Good) → open_image most vc apid packets ≡ Some image →
       open_stretch (packets_of_key vc apid (heard most packets)) ≡ Some t → c.opening.coded ≡ true →
       c.total ≤ pieces_in c t + image.wanted
+  pub plain : (image : Image) (t : List Good) → open_image most vc apid packets ≡ Some image →
+      open_stretch (packets_of_key vc apid (heard most packets)) ≡ Some t → c.opening.coded ≡ false →
+      c.skip + c.total ≤ size_of t + image.wanted
 
 -- ---- pieces
 
@@ -105,6 +113,17 @@ fillers_pieces filling zero count some = refl
 fillers_pieces filling (suc n) count some =
     length-some filling.body (some_of (bodies_of (fillers_from filling n (count_after count)))) (some n refl)
     ∙ ap suc (fillers_pieces filling n (count_after count) (λ k e. some n refl))
+
+pub fillers_size : (filling : Filling) (n count : ℕ) → size_of (fillers_from filling n count) ≡ n * length filling.body
+unfolding fillers_from
+fillers_size filling zero count = sym (zero-mul (length filling.body))
+fillers_size filling (suc n) count =
+    omega (
+      arith,
+      fillers_size filling n (count_after count),
+      suc-mul n (length filling.body),
+      length-append filling.body (concat (bodies_of (fillers_from filling n (count_after count)))),
+    )
 
 -- ---- one packet more, and fillers
 

@@ -8,7 +8,7 @@ use Rattle.std.proofs.lemmas.List.Elements.{filter-append}
 use Rattle.std.proofs.Math.Nat.{one-mul}
 use Rattle.lr_bits.specs.declared.sizes.TheConstants.{SEQUENCE_COUNTS}
 use Rattle.lr_packet.specs.Verdict.{Good}
-use Rattle.lr_file.specs.Files.{bodies_of, is_file, packets_of_key}
+use Rattle.lr_file.specs.Files.{bodies_of, is_file, packets_of_key, size_of}
 use Rattle.lr_file.specs.Standing.{is_open, last_count, open_from}
 use Rattle.lr_file.specs.Steps.{is_next}
 use Rattle.lr_file.proofs.Histories.{packets_of_key-other, packets_of_key-own}
@@ -28,7 +28,9 @@ use Rattle.lr_mend_laws.proofs.MendedStretches.{pieces_in, pieces_more, step_mat
 use Rattle.lr_mend_laws.proofs.OnlyImages.{Grows, grows}
 use Rattle.lr_mend_laws.proofs.SentPackets.{EachOf, Gap, came_last, came_none, each_back, each_front}
 use Rattle.lr_mend_laws.proofs.SentPackets.{first_of_file, gap_is}
-use Rattle.lr_mend_laws.proofs.WholeImages.{begins_with, continued, is_of_key, since-one, since-own}
+use Rattle.lr_mend_laws.proofs.WholeImages.{begins_with, continued, is_of_key, since-one, since-own, size_of-append, size_of-one}
+use Rattle.lr_mend_laws.proofs.WholeImages.{units_same}
+use Rattle.lr_mend_laws.proofs.MendedStretches.{fillers_size}
 
 -- ---- what is known of a packet that came after others
 
@@ -201,8 +203,35 @@ module _ (c : SentFile) (most : ℕ) (packets : List Good) (p : Good) (sent miss
       bodies-end [] q = refl
       bodies-end (x ∷ qs) q = ap (λ (l : List (List ℕ)). x.body ∷ l) (bodies-end qs q)
 
+  now_plain : (image : Image) (t : List Good) → open_image most p.vc p.apid (packets ++ p ∷ []) ≡ Some image →
+      open_stretch (packets_of_key p.vc p.apid (heard most (packets ++ p ∷ []))) ≡ Some t → c.opening.coded ≡ false →
+      c.skip + c.total ≤ size_of t + image.wanted
+  unfolding gap_before gap_of
+  now_plain image t e f plain =
+      let it = now_image image e in
+      let old = it.old in
+      let n = fillers_before most old p in
+      let filling = filling_before old p in
+      let fillers = fillers_from filling n (count_after old.count) in
+      let more = open_more (packets_of_key p.vc p.apid listened) p t not_one (sym (ap open_stretch now_heard) ∙ f) in
+      let filled = fillers_stretch filling n (count_after old.count) (heard most packets) more.s
+      (sym (ap (λ (o : Option Image). open_stretch (packets_of_key p.vc p.apid (heard most packets ++ gap_of most o p)))
+      it.was) ∙ more.was) in
+      let base = standing.plain old filled.s it.was filled.was plain in
+      let is_plain : old.coded ≡ false = (standing.image old it.was).coded ∙ plain in
+      let units = units_same most old p is_plain n refl in
+      let size : size_of t ≡ size_of filled.s + n * length filling.body + length p.body =
+      ap size_of (more.is ∙ ap (λ (l : List Good). l ++ p ∷ []) filled.is)
+      ∙ size_of-append (filled.s ++ fillers) (p ∷ [])
+      ∙ (λ i. size_of-append filled.s fillers i + size_of-one p i)
+      ∙ ap (λ (k : ℕ). size_of filled.s + k + length p.body) (fillers_size filling n (count_after old.count)) in
+      let wanted : image.wanted ≡ old.wanted - (unit_of old p * n + length p.body) =
+      ap (λ (i : Image). i.wanted) it.is
+      ∙ ap (λ (b : Bool). old.wanted - (unit_of old p * n + units_in b p.body)) is_plain in
+      omega (arith, base, size, wanted, units)
+
   own_next : Standing c most (packets ++ p ∷ []) p.vc p.apid (sent ++ (missing ++ p ∷ []))
-  own_next = record { stretch = now_stretch; image = now_kept; enough = now_enough }
+  own_next = record { stretch = now_stretch; image = now_kept; enough = now_enough; plain = now_plain }
 
 -- ---- the first packet of the image
 
@@ -279,6 +308,11 @@ module _ (c : SentFile) (most : ℕ) (packets : List Good) (p : Good) (same : p 
         let pieces : pieces_in c t ≡ length (some_of (drop c.skip c.first.body ∷ [])) =
         ap (pieces_in c) (first_stretch t f ∙ ap (λ (q : Good). q ∷ []) same) in
         omega (arith, c.accounts coded, pieces, it.wanted);
+    plain = λ image t e f coded.
+        let it = first_image image e in
+        let size : size_of t ≡ length c.first.body =
+        ap size_of (first_stretch t f) ∙ size_of-one p ∙ ap (λ (q : Good). length q.body) same in
+        omega (arith, c.plain coded, size, it.wanted);
   }
 
 -- ---- a packet of another channel or application
@@ -319,6 +353,7 @@ other_next c most vc apid packets p sent other standing =
       stretch = λ t e. standing.stretch t (same ∙ e);
       image = λ image e. standing.image image (images ∙ e);
       enough = λ image t e f. standing.enough image t (images ∙ e) (same ∙ f);
+      plain = λ image t e f. standing.plain image t (images ∙ e) (same ∙ f);
     }
 
 -- ---- all packets

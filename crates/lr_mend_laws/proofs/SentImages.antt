@@ -1,4 +1,5 @@
 -- The mended files of an image that was sent have an image.
+use Rattle.lr_image.specs.Picture.{Picture}
 use Rattle.std.proofs.Common.{◌≡◌, ℕ, ◌+◌, ◌-◌, ◌≤◌, Bool, true, false, cond, eqb, leb}
 use Rattle.std.proofs.Common.{◌&&◌, Option, Some, None, List, [], ◌∷◌, ◌++◌, length, map, drop, refl, sym, ap}
 use Rattle.std.proofs.Common.{◌∙◌, subst, arith, length-drop, ◌⊎◌, inl, inr, min, Result}
@@ -26,7 +27,7 @@ use Rattle.lr_mend.specs.Openings.{Opening, opening_by, opening_from, opening_in
 use Rattle.lr_mend.specs.Seams.{seams_of}
 use Rattle.lr_mend.specs.declared.marks.MarkedFile.{MarkedFile}
 use Rattle.lr_mend.proofs.StayingFiles.{ends, file_stretch-end, heard, open_stretch, unflagged}
-use Rattle.lr_mend_laws.specs.SentImages.{AreAlike, Came, HasImage, HasLines, SentImage}
+use Rattle.lr_mend_laws.specs.SentImages.{AreAlike, Came, HasImageLike, HasLines, SentImage}
 use Rattle.lr_mend_laws.specs.SentImages.{SentImagesAreRead, since_beginning as since}
 use Rattle.lr_mend_laws.proofs.CodedPieces.{some_of}
 use Rattle.lr_mend_laws.proofs.CodedPieces.{length-one}
@@ -36,7 +37,7 @@ use Rattle.lr_mend_laws.proofs.OnlyImages.{Grows, all_of, grows, no_beginning, o
 use Rattle.lr_mend_laws.proofs.SentHistories.{later_is, matches_gap, next_split, standing}
 use Rattle.lr_mend_laws.proofs.SentPackets.{EachOf, came_last, came_none, each_of, first_of_file}
 use Rattle.lr_mend_laws.proofs.StandingImages.{FirstRead, before_data}
-use Rattle.lr_mend_laws.proofs.StandingImages.{same_shape, standing_files}
+use Rattle.lr_mend_laws.proofs.StandingImages.{inside, same_shape, standing_files}
 use Rattle.lr_mend_laws.proofs.WholeImages.{only_begins}
 use Rattle.lr_mend_laws.proofs.WholeImages.{since-own}
 
@@ -90,6 +91,26 @@ module _ (vc apid : ℕ) (sent : List Good) (i : SentImage vc apid sent) where
         length-drop 10 i.first.body,
       )
 
+  pub inside_first : before_data i.first.body read ≤ length i.first.body
+  inside_first = inside (file_from vc apid sent) i.first.body (bodies_of i.others) split read
+
+  pub plain_accounts : i.opening.coded ≡ false →
+      before_data i.first.body read + units_of_image read.shape.structure read.shape.lossless
+      ≤ length i.first.body + i.opening.wanted
+  plain_accounts plain =
+      let rest = drop (length read.header.bytes) (drop 10 i.first.body) in
+      let is : is_some read.shape.lossless ≡ false = sym (ap (λ (o : Opening). o.coded) opening_same) ∙ plain in
+      let wanted : i.opening.wanted ≡ units_of_image read.shape.structure read.shape.lossless - length rest =
+      ap (λ (o : Opening). o.wanted) opening_same
+      ∙ ap (λ (b : Bool). units_of_image read.shape.structure read.shape.lossless - units_in b rest) is in
+      omega (
+        arith,
+        wanted,
+        inside_first,
+        length-drop (length read.header.bytes) (drop 10 i.first.body),
+        length-drop 10 i.first.body,
+      )
+
   abbrev pub sent_file : SentFile
   sent_file =
       let fits = fits_of i.image.layout.shape.structure i.image.layout.shape.lossless sent i.alike in
@@ -109,11 +130,13 @@ module _ (vc apid : ℕ) (sent : List Good) (i : SentImage vc apid sent) where
         fits = fits.1;
         skip = before_data i.first.body read;
         total = units_of_image read.shape.structure read.shape.lossless;
+        inside = inside_first;
+        plain = plain_accounts;
         accounts = accounts;
       }
 
   -- a file that matches all that was sent
-  pub matching_image : (t : List Good) → Matches sent_file sent t → HasImage (file_from vc apid t)
+  pub matching_image : (t : List Good) → Matches sent_file sent t → HasImageLike i.picture (file_from vc apid t)
   matching_image t m =
       standing_files (file_from vc apid sent) (file_from vc apid t) i.picture i.image i.opening i.first.body
       (bodies_of m.later) (bodies_of m.others) (ap bodies_of m.sent_is) (ap bodies_of m.is) i.opens m.stand
@@ -145,18 +168,24 @@ file_ends ps p file e =
     ]
 
 -- a marked file has an image, if the file has
-marked_image : (file : File) (places : List ℕ) (m : MarkedFile) → marked file places ≡ Some m → HasImage file →
-    HasImage m.file
-marked_image file [] m e image =
-    let same : whole_file file ≡ m = cc in subst (λ (m : MarkedFile). HasImage m.file) same image
-marked_image file (place ∷ places) m e image =
-    (image.0, marked_images file place places m image.0 e image.1)
+marked_image : (picture : Picture) (file : File) (places : List ℕ) (m : MarkedFile) → marked file places ≡ Some m →
+    HasImageLike picture file → HasImageLike picture m.file
+marked_image picture file [] m e image =
+    let same : whole_file file ≡ m = cc in subst (λ (m : MarkedFile). HasImageLike picture m.file) same image
+marked_image picture file (place ∷ places) m e image =
+    record {
+      other = image.other;
+      is = marked_images file place places m image.other e image.is;
+      bits = image.bits;
+      columns = image.columns;
+      lines = image.lines;
+    }
 
-pub image_of : (o : Option File) (places : List ℕ) (m : MarkedFile) →
-    option_and_then (λ file. marked file places) o ≡ Some m → ((file : File) → o ≡ Some file → HasImage file) →
-    HasImage m.file
-image_of None places m e image = cc
-image_of (Some file) places m e image = marked_image file places m e (image file refl)
+pub image_of : (picture : Picture) (o : Option File) (places : List ℕ) (m : MarkedFile) →
+    option_and_then (λ file. marked file places) o ≡ Some m → ((file : File) → o ≡ Some file →
+    HasImageLike picture file) → HasImageLike picture m.file
+image_of picture None places m e image = cc
+image_of picture (Some file) places m e image = marked_image picture file places m e (image file refl)
 
 -- ---- an image whose last packet came
 
@@ -171,24 +200,30 @@ module _ (most : ℕ) (packets : List Good) (p : Good) (sent : List Good) (i : S
       subst (Came sent) (since-own packets p
       ∙ ap (λ (b : Bool). cond b (p ∷ []) (since p.vc p.apid packets ++ p ∷ [])) is) came_of
 
-  alone_image : is_file (p ∷ []) ≡ true → HasImage (file_from p.vc p.apid (p ∷ []))
+  alone_image : is_file (p ∷ []) ≡ true → HasImageLike i.picture (file_from p.vc p.apid (p ∷ []))
   alone_image is =
       let begins = only_begins p (and_left (eqb p.flags 3) _ (and_left _ _ (sym (is_file-one p) ∙ is))) in
-      elim (came_last sent (p ∷ []) (came_by true begins) [] p refl) as (λ _. HasImage (file_from p.vc p.apid (p ∷ []))) [
-        | inl one ↦ subst (λ (l : List Good). HasImage (file_from p.vc p.apid l)) one.0 (i.picture, i.image)
+      elim (came_last sent (p ∷ []) (came_by true begins) [] p refl) as (λ _. HasImageLike i.picture (file_from p.vc p.apid (p ∷ []))) [
+        | inl one ↦ subst (λ (l : List Good). HasImageLike i.picture (file_from p.vc p.apid l)) one.0 (record {
+          other = i.picture;
+          is = i.image;
+          bits = refl;
+          columns = refl;
+          lines = refl;
+        })
         | inr before ↦ absurd (came_none before.sent [] before.before refl)
       ]
 
   last_image : (t : List Good) →
       open_stretch (packets_of_key p.vc p.apid (heard most packets ++ gap_before most packets p)) ≡ Some t →
-      ends p t ≡ true → HasImage (file_from p.vc p.apid (t ++ p ∷ []))
+      ends p t ≡ true → HasImageLike i.picture (file_from p.vc p.apid (t ++ p ∷ []))
   unfolding gap_before
   last_image t e ending =
       let both = and_left (eqb p.flags 2 && is_next (open_from t) p) (leb 10 (size_of (t ++ p ∷ []))) ending in
       let two = and_left (eqb p.flags 2) (is_next (open_from t) p) both in
       let none = no_beginning p 2 two refl refl in
       elim (came_last sent (since p.vc p.apid packets ++ p ∷ []) (came_by false none) (since p.vc p.apid packets) p refl)
-      as (λ _. HasImage (file_from p.vc p.apid (t ++ p ∷ []))) [
+      as (λ _. HasImageLike i.picture (file_from p.vc p.apid (t ++ p ∷ []))) [
         | inl one ↦
             let begins = first_of_file p [] (ap is_file (sym one.0) ∙ i.is_one) in
             let never : true ≡ false = sym begins ∙ none in
@@ -204,11 +239,11 @@ module _ (most : ℕ) (packets : List Good) (p : Good) (sent : List Good) (i : S
             (subst (λ (l : List Good). Matches c l (t ++ p ∷ [])) (sym before.is) m)
       ]
 
-  packet_image : (file : File) → file_at (heard most packets ++ gap_before most packets p) p ≡ Some file → HasImage file
+  packet_image : (file : File) → file_at (heard most packets ++ gap_before most packets p) p ≡ Some file → HasImageLike i.picture file
   packet_image file e =
-      elim (file_ends (heard most packets ++ gap_before most packets p) p file e) as (λ _. HasImage file) [
-        | inl alone ↦ subst HasImage (sym alone.1) (alone_image alone.0)
-        | inr on ↦ subst HasImage (sym on.1.1.1) (last_image on.0 on.1.0 on.1.1.0)
+      elim (file_ends (heard most packets ++ gap_before most packets p) p file e) as (λ _. HasImageLike i.picture file) [
+        | inl alone ↦ subst (HasImageLike i.picture) (sym alone.1) (alone_image alone.0)
+        | inr on ↦ subst (HasImageLike i.picture) (sym on.1.1.1) (last_image on.0 on.1.0 on.1.1.0)
       ]
 
 pub sent_images : SentImagesAreRead
@@ -219,6 +254,6 @@ sent_images most packets p sent i came_of =
     let same : map packet_of before ≡ heard most packets ++ gap =
     map-append packet_of (mended_packets most packets) (map filler_of gap)
     ∙ ap (λ (l : List Good). heard most packets ++ l) (unflagged gap) in
-    all_of (λ (m : MarkedFile). HasImage m.file) (mended_file before (came p))
-    (λ m e. image_of (file_at (map packet_of before) p) (seams_of p.vc p.apid (before ++ came p ∷ [])).fillers m e
+    all_of (λ (m : MarkedFile). HasImageLike i.picture m.file) (mended_file before (came p))
+    (λ m e. image_of i.picture (file_at (map packet_of before) p) (seams_of p.vc p.apid (before ++ came p ∷ [])).fillers m e
     (λ file at. packet_image most packets p sent i came_of file (ap (λ (l : List Good). file_at l p) (sym same) ∙ at)))

@@ -19,12 +19,16 @@ use Rattle.lr_image.specs.Shapes.{shape_of}
 use Rattle.lr_image.specs.declared.shape.Shape.{Shape}
 use Rattle.lr_image.proofs.PlainLemmas.{length-written}
 use Rattle.lr_mend.specs.Openings.{units_of_image}
-use Rattle.lr_mend_laws.specs.SentImages.{HasImage, StandFor, StandingFilesAreRead}
+use Rattle.lr_mend_laws.specs.SentImages.{HasImageLike, StandFor, StandingFilesAreRead}
 use Rattle.lr_mend_laws.proofs.CodedPieces.{HaveLines, after_first, enough, given, gives, some_of, standing_are_many}
 use Rattle.lr_mend_laws.proofs.CodedPieces.{standing_have}
 use Rattle.lr_mend_laws.proofs.MarkedHeaders.{header_inside, header_longer, is_long, of_header}
 use Rattle.lr_mend_laws.proofs.OnlyImages.{Read, opened_read}
 use Rattle.lr_mend_laws.proofs.WholeImages.{has_image}
+
+-- there is an image
+abbrev pub HasImage : File → Type 0
+HasImage file = (picture : Picture) × IsImageOf file picture
 
 -- what the first body says of the header
 abbrev pub FirstRead : List ℕ → Type 0
@@ -45,7 +49,7 @@ module _ (file : File) (first : List ℕ) (others : List (List ℕ)) (split : fi
   first_has : IsHeaderOf (drop 10 first) read.header
   first_has = of_header (drop 10 first) read.header (header_of (drop 10 first)) read.is (headers_are_read (drop 10 first))
 
-  inside : before_data first read ≤ length first
+  pub inside : before_data first read ≤ length first
   inside =
       let long = is_long (drop 10 first) read.header first_has in
       let less = header_inside (drop 10 first) read.header first_has in
@@ -148,6 +152,22 @@ module _ (file : File) (first : List ℕ) (others : List (List ℕ)) (split : fi
       ∙ ap (λ (n : ℕ). n + length has.rest) (length-written s.bits pixels ∙ ap (λ (n : ℕ). s.bits * n) has.count) in
       omega (arith, bits, length-field)
 
+-- an image of a file with the same first body is like that of the other one
+module _ (sent mended : File) (first : List ℕ) (bodies others : List (List ℕ)) (split : sent.bodies ≡ first ∷ bodies)
+    (splits : mended.bodies ≡ first ∷ others) (read : FirstRead first) (picture : Picture)
+    (image : IsImageOf sent picture) where
+  pub like : HasImage mended → HasImageLike picture mended
+  like has =
+      let same : has.1.layout.shape ≡ image.layout.shape =
+      same_shape mended first others splits read has.0 has.1 ∙ sym (same_shape sent first bodies split read picture image) in
+      record {
+        other = has.0;
+        is = has.1;
+        bits = has.1.bits ∙ ap (λ (s : Shape). s.structure.bits) same ∙ sym image.bits;
+        columns = has.1.columns ∙ ap (λ (s : Shape). s.structure.columns) same ∙ sym image.columns;
+        lines = has.1.lines ∙ ap (λ (s : Shape). s.structure.lines) same ∙ sym image.lines;
+      }
+
 -- ---- a file that stands for another one
 
 same_size : (s : Structure) (bodies others : List (List ℕ)) → StandFor s None bodies others →
@@ -195,6 +215,7 @@ pub standing_files : StandingFilesAreRead
 standing_files sent mended picture image opening first bodies others split splits opens stand =
     let read = opened_read first opening opens in
     let same = same_shape sent first bodies split read picture image in
-    by_lossless sent mended first bodies others split splits read picture.pixels read.shape.lossless refl
+    like sent mended first bodies others split splits read picture image
+    (by_lossless sent mended first bodies others split splits read picture.pixels read.shape.lossless refl
     (has_pixels sent first bodies split read picture image)
-    (subst (λ (s : Shape). StandFor s.structure s.lossless bodies others) same stand)
+    (subst (λ (s : Shape). StandFor s.structure s.lossless bodies others) same stand))

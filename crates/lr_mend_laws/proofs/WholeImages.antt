@@ -162,7 +162,7 @@ file_bodies ps p file e =
 
 -- ---- how many bytes they have
 
-size_of-append : (xs ys : List Good) → size_of (xs ++ ys) ≡ size_of xs + size_of ys
+pub size_of-append : (xs ys : List Good) → size_of (xs ++ ys) ≡ size_of xs + size_of ys
 size_of-append [] ys = omega arith
 size_of-append (x ∷ xs) ys =
     omega (
@@ -172,7 +172,7 @@ size_of-append (x ∷ xs) ys =
       length-append x.body (concat (bodies_of xs)),
     )
 
-size_of-one : (p : Good) → size_of (p ∷ []) ≡ length p.body
+pub size_of-one : (p : Good) → size_of (p ∷ []) ≡ length p.body
 size_of-one p = ap length (append-nil p.body)
 
 pub filler_begins_none : (b : Bool) → (eqb (cond b 2 0) 1 || eqb (cond b 2 0) 3) ≡ false
@@ -318,7 +318,7 @@ some_filling most image p k many = by_can (can_fill image p) refl
         let some = and_left (ltb 0 (length (filling_of image p))) _ can in grind (arith, nat_tests, some)
     by_can false can = absurd (omega (arith, many, fillers_before-not most image p can))
 
-units_same : (most : ℕ) (image : Image) (p : Good) → image.coded ≡ false → (n : ℕ) → fillers_before most image p ≡ n →
+pub units_same : (most : ℕ) (image : Image) (p : Good) → image.coded ≡ false → (n : ℕ) → fillers_before most image p ≡ n →
     unit_of image p * n ≡ n * length (filler_body image p)
 units_same most image p plain zero none = omega arith
 units_same most image p plain (suc k) many =

@@ -36,17 +36,21 @@ StandFor s lossless (body ∷ bodies) (other ∷ others) =
     ((other ≡ body) ⊎ CanStandFor s lossless body other) × StandFor s lossless bodies others
 StandFor s lossless bodies others = ⊥
 
--- there is an image
-abbrev pub HasImage : File → Type 0
-HasImage file = (picture : Picture) × IsImageOf file picture
+-- there is an image, of as many columns and lines as this one, and of pixels of as many bits
+pub record HasImageLike (picture : Picture) (file : File) : Type 0 where
+  pub other : Picture
+  pub is : IsImageOf file other
+  pub bits : other.bits ≡ picture.bits
+  pub columns : other.columns ≡ picture.columns
+  pub lines : other.lines ≡ picture.lines
 
--- A file has an image, and its first body has the whole header. Another file with that body has an image too, if each
--- of its other bodies is the one in its place, or a filler that can stand for it.
+-- A file has an image, and its first body has the whole header. Another file with that body has an image like it, if
+-- each of its other bodies is the one in its place, or a filler that can stand for it.
 abbrev pub StandingFilesAreRead : Type 0
 StandingFilesAreRead = (sent mended : File) (picture : Picture) (image : IsImageOf sent picture) (opening : Opening)
     (first : List ℕ) (bodies others : List (List ℕ)) →
     sent.bodies ≡ first ∷ bodies → mended.bodies ≡ first ∷ others → opening_of first ≡ Some opening →
-    StandFor image.layout.shape.structure image.layout.shape.lossless bodies others → HasImage mended
+    StandFor image.layout.shape.structure image.layout.shape.lossless bodies others → HasImageLike picture mended
 
 -- ---- packets that were sent, and those of them that came
 
@@ -88,17 +92,17 @@ pub record SentImage (vc apid : ℕ) (sent : List Good) : Type 0 where
   pub alike : AreAlike image.layout.shape.structure image.layout.shape.lossless sent
 
 -- An image was sent, and its first packet, its last one and some between came. The mended file that ends with the last
--- one, if one does, has an image.
+-- one, if one does, has an image like it.
 abbrev pub SentImagesAreRead : Type 0
 SentImagesAreRead = (most : ℕ) (packets : List Good) (packet : Good) (sent : List Good) →
-    SentImage packet.vc packet.apid sent →
+    (image : SentImage packet.vc packet.apid sent) →
     Came sent (since_beginning packet.vc packet.apid (packets ++ packet ∷ [])) →
-    All (λ (m : MarkedFile). HasImage m.file) (option_to_list (file_of_packet most packets packet))
+    All (λ (m : MarkedFile). HasImageLike image.picture m.file) (option_to_list (file_of_packet most packets packet))
 
 -- An image was sent, its first packet and others of it came, and then another packet of its channel and application.
--- The mended file that ends with the fillers before that one, if one does, has an image.
+-- The mended file that ends with the fillers before that one, if one does, has an image like it.
 abbrev pub MadeImagesAreRead : Type 0
 MadeImagesAreRead = (most : ℕ) (packets : List Good) (packet : Good) (sent lost : List Good) →
-    SentImage packet.vc packet.apid (sent ++ lost) → 1 < length sent →
+    (image : SentImage packet.vc packet.apid (sent ++ lost)) → 1 < length sent →
     Came sent (since_beginning packet.vc packet.apid packets) →
-    All (λ (m : MarkedFile). 0 < m.fillers → HasImage m.file) (files_of_gap most packets packet)
+    All (λ (m : MarkedFile). HasImageLike image.picture m.file) (files_of_gap most packets packet)
