@@ -8,5 +8,6 @@ pub mod OnlyImages
 pub mod SentHistories
 pub mod SentImages
 pub mod SentPackets
+pub mod SinceBeginning
 pub mod StandingImages
 pub mod WholeImages

@@ -47,7 +47,8 @@ use Rattle.lr_image.specs.Picture.{Picture}
 use Rattle.lr_mend_laws.specs.SentImages.{HasImageLike}
 use Rattle.lr_mend_laws.proofs.MendedStretches.{fillers_size}
 use Rattle.lr_mend_laws.proofs.StandingImages.{HasImage, like, plain_image}
-use Rattle.lr_mend_laws.proofs.WholeImages.{size_of-append, units_same}
+use Rattle.lr_mend_laws.proofs.SinceBeginning.{size_of-append}
+use Rattle.lr_mend_laws.proofs.WholeImages.{units_same}
 
 -- ---- an image whose last packets are missing
 

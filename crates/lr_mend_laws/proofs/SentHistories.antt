@@ -28,7 +28,8 @@ use Rattle.lr_mend_laws.proofs.MendedStretches.{pieces_in, pieces_more, step_mat
 use Rattle.lr_mend_laws.proofs.OnlyImages.{Grows, grows}
 use Rattle.lr_mend_laws.proofs.SentPackets.{EachOf, Gap, came_last, came_none, each_back, each_front}
 use Rattle.lr_mend_laws.proofs.SentPackets.{first_of_file, gap_is}
-use Rattle.lr_mend_laws.proofs.WholeImages.{begins_with, continued, is_of_key, since-one, since-own, size_of-append, size_of-one}
+use Rattle.lr_mend_laws.proofs.SinceBeginning.{is_of_key, since-one, since-own, size_of-append, size_of-one}
+use Rattle.lr_mend_laws.proofs.WholeImages.{begins_with, continued}
 use Rattle.lr_mend_laws.proofs.WholeImages.{units_same}
 use Rattle.lr_mend_laws.proofs.MendedStretches.{fillers_size}
 

@@ -38,8 +38,8 @@ use Rattle.lr_mend_laws.proofs.SentHistories.{later_is, matches_gap, next_split,
 use Rattle.lr_mend_laws.proofs.SentPackets.{EachOf, came_last, came_none, each_of, first_of_file}
 use Rattle.lr_mend_laws.proofs.StandingImages.{FirstRead, before_data}
 use Rattle.lr_mend_laws.proofs.StandingImages.{inside, same_shape, standing_files}
-use Rattle.lr_mend_laws.proofs.WholeImages.{only_begins}
-use Rattle.lr_mend_laws.proofs.WholeImages.{since-own}
+use Rattle.lr_mend_laws.proofs.SinceBeginning.{only_begins}
+use Rattle.lr_mend_laws.proofs.SinceBeginning.{since-own}
 
 -- ---- what a file that was sent says of itself
 

@@ -13,7 +13,7 @@ use Rattle.lr_file.proofs.Stretches.{and_left, and_right, is_file-end, is_file-o
 use Rattle.lr_mend.specs.Mending.{begins_file}
 use Rattle.lr_mend.proofs.StayingFiles.{follows}
 use Rattle.lr_mend_laws.specs.SentImages.{Came, first_came, then_came}
-use Rattle.lr_mend_laws.proofs.WholeImages.{first_begins, only_begins}
+use Rattle.lr_mend_laws.proofs.SinceBeginning.{first_begins, only_begins}
 
 -- ---- each of a list
 
