@@ -72,7 +72,8 @@ not_three false e = absurd (cc e)
 one_file : (picture : Picture) (filling : Filling) (n count : ℕ) (ps : List Good) →
     ((t : List Good) → open_stretch (packets_of_key filling.vc filling.apid ps) ≡ Some t → filling.ends ≡ true →
     0 < suc n → HasImageLike picture (file_from filling.vc filling.apid (t ++ fillers_from filling (suc n) count))) →
-    (last : Bool) → (filling.ends && eqb n 0) ≡ last → (file : File) → file_at ps (first_of filling n count) ≡ Some file →
+    (last : Bool) → (filling.ends && eqb n 0) ≡ last → (file : File) →
+    file_at ps (first_of filling n count) ≡ Some file →
     HasImageLike picture file
 unfolding fillers_from
 one_file picture filling n count ps image false is file at =
@@ -97,8 +98,10 @@ one_file picture filling n count ps image true is file at =
 -- the files that fillers end, if those that the last one ends have an image
 made_all : (picture : Picture) (filling : Filling) (n count : ℕ) (before : List Mended) →
     ((t : List Good) → open_stretch (packets_of_key filling.vc filling.apid (map packet_of before)) ≡ Some t →
-    filling.ends ≡ true → 0 < n → HasImageLike picture (file_from filling.vc filling.apid (t ++ fillers_from filling n count))) →
-    All (λ (m : MarkedFile). HasImageLike picture m.file) (mended_files_after before (map filler_of (fillers_from filling n count)))
+    filling.ends ≡ true → 0 < n →
+    HasImageLike picture (file_from filling.vc filling.apid (t ++ fillers_from filling n count))) →
+    All (λ (m : MarkedFile). HasImageLike picture m.file)
+    (mended_files_after before (map filler_of (fillers_from filling n count)))
 unfolding fillers_from
 made_all picture filling zero count before image = All-nil (λ (m : MarkedFile). HasImageLike picture m.file)
 made_all picture filling (suc n) count before image =
@@ -233,7 +236,8 @@ module _ (most : ℕ) (packets : List Good) (p : Good) (sent lost : List Good)
         (split p.vc p.apid (sent ++ lost) i) first_read i.picture i.image in
         let give = coded_has (file_from p.vc p.apid (sent ++ lost)) i.first.body (bodies_of i.others)
         (split p.vc p.apid (sent ++ lost) i) first_read l i.picture.pixels
-        (subst (λ (o : Option Lossless). HasPixels (file_from p.vc p.apid (sent ++ lost)) (length first_read.header.bytes) s
+        (subst (λ (o : Option Lossless). HasPixels (file_from p.vc p.apid (sent ++ lost))
+        (length first_read.header.bytes) s
         o i.picture.pixels) lossless pixels) in
         let have = given (line_form s l) l.lines s.lines (some_of (front ∷ bodies_of i.others)) i.picture.pixels give in
         let others_are : i.others ≡ m.later ++ lost =
@@ -244,11 +248,13 @@ module _ (most : ℕ) (packets : List Good) (p : Good) (sent lost : List Good)
         ap (λ (l : List Good). some_of (front ∷ bodies_of l)) others_are
         ∙ ap (λ (l : List (List ℕ)). some_of (front ∷ l)) (map-append (λ (q : Good). q.body) m.later lost)
         ∙ some_of-append (front ∷ bodies_of m.later) (bodies_of lost) in
-        let had = front_has (line_form s l) l.lines s.lines (some_of (front ∷ bodies_of m.later)) (some_of (bodies_of lost))
+        let had = front_has (line_form s l) l.lines s.lines (some_of (front ∷ bodies_of m.later))
+        (some_of (bodies_of lost))
         (subst (HaveLines (line_form s l) l.lines s.lines) pieces_are have) in
         let stand : StandFor s (Some l) (bodies_of m.later) (bodies_of m.others) =
         subst (λ (o : Option Lossless). StandFor s o (bodies_of m.later) (bodies_of m.others)) is
-        (subst (λ (h : Shape). StandFor h.structure c.lossless (bodies_of m.later) (bodies_of m.others)) same m.stand) in
+        (subst (λ (h : Shape). StandFor h.structure c.lossless (bodies_of m.later)
+        (bodies_of m.others)) same m.stand) in
         let now = standing_have s l (front ∷ bodies_of m.later) (front ∷ bodies_of m.others) (inl refl, stand) s.lines
         s.lines (omega arith) had in
         let all = fillers_have s l s.lines filling n (count_after image.count) filler_has

@@ -97,12 +97,14 @@ pub pieces_more : (c : SentFile) (t : List Good) (first : Good) (others qs : Lis
     pieces_in c (t ++ qs) ≡ pieces_in c t + length (some_of (bodies_of qs))
 pieces_more c t first others qs is =
     ap (λ (l : List Good). pieces_in c (l ++ qs)) is
-    ∙ ap (λ (l : List (List ℕ)). length (some_of (drop c.skip first.body ∷ l))) (map-append (λ (p : Good). p.body) others qs)
+    ∙ ap (λ (l : List (List ℕ)). length (some_of (drop c.skip first.body ∷ l)))
+    (map-append (λ (p : Good). p.body) others qs)
     ∙ ap length (some_of-append (drop c.skip first.body ∷ bodies_of others) (bodies_of qs))
     ∙ length-append (some_of (drop c.skip first.body ∷ bodies_of others)) (some_of (bodies_of qs))
     ∙ ap (λ (l : List Good). pieces_in c l + length (some_of (bodies_of qs))) (sym is)
 
-length-some : (body : List ℕ) (pieces : List (List ℕ)) → 0 < length body → length (piece_with body pieces) ≡ suc (length pieces)
+length-some : (body : List ℕ) (pieces : List (List ℕ)) → 0 < length body →
+    length (piece_with body pieces) ≡ suc (length pieces)
 length-some [] pieces some = absurd (omega (arith, some))
 length-some (byte ∷ bytes) pieces some = refl
 
@@ -178,7 +180,8 @@ fillers_stretch filling (suc n) count ps r e =
     } in
     let rest = fillers_from filling n (count_after count) in
     let it = fillers_stretch filling n (count_after count) (ps ++ f ∷ []) r
-    (ap (λ (l : List Good). open_stretch (packets_of_key filling.vc filling.apid l)) (append_assoc ps (f ∷ []) rest) ∙ e) in
+    (ap (λ (l : List Good). open_stretch (packets_of_key filling.vc filling.apid l)) (append_assoc ps (f ∷ []) rest)
+    ∙ e) in
     let more = open_more (packets_of_key f.vc f.apid ps) f it.s (not_first (filling.ends && eqb n 0))
     (sym (ap open_stretch (packets_of_key-own ps f)) ∙ it.was) in
     let count_is : last_count it.s ≡ (last_count more.s + 1) % SEQUENCE_COUNTS =
@@ -254,7 +257,8 @@ step_matches c ps t p filling n count sent missing stretch gap few less fits mad
     let fillers = fillers_from filling n count in
     let same : n ≡ length missing =
     counts_same (last_count sent) n (length missing) less few
-    (ap (λ (k : ℕ). (k + n + 1) % SEQUENCE_COUNTS) (sym m.count) ∙ sym it.counts ∙ sym (follows t p next) ∙ gap.counted) in
+    (ap (λ (k : ℕ). (k + n + 1) % SEQUENCE_COUNTS) (sym m.count) ∙ sym it.counts ∙ sym (follows t p next)
+    ∙ gap.counted) in
     record {
       later = m.later ++ (missing ++ p ∷ []);
       others = m.others ++ (fillers ++ p ∷ []);
@@ -301,5 +305,6 @@ fillers_few most image p =
     let some : 0 < SEQUENCE_COUNTS = omega arith in
     let less = mod-lt (p.count + SEQUENCE_COUNTS - (image.count + 1)) some in
     let low = at_most
-    (can_fill image p && leb (image.fillers + min (missing_before image p) (needed_before image p)) most) (min (missing_before image p) (needed_before image p)) (missing_before image p) (omega arith) in
+    (can_fill image p && leb (image.fillers + min (missing_before image p) (needed_before image p)) most)
+    (min (missing_before image p) (needed_before image p)) (missing_before image p) (omega arith) in
     omega (arith, less, low)

@@ -127,7 +127,8 @@ module _ (c : SentFile) (most : ℕ) (packets : List Good) (p : Good) (sent miss
   not_one : eqb p.flags 1 ≡ false
   not_one = no_first p (eqb p.flags 1) refl later.gap.none_begins
 
-  now_heard : packets_of_key p.vc p.apid (heard most (packets ++ p ∷ [])) ≡ packets_of_key p.vc p.apid listened ++ p ∷ []
+  now_heard : packets_of_key p.vc p.apid (heard most (packets ++ p ∷ []))
+      ≡ packets_of_key p.vc p.apid listened ++ p ∷ []
   now_heard = ap (packets_of_key p.vc p.apid) (heard-more most packets p) ∙ packets_of_key-own listened p
 
   now_stretch : (t : List Good) →
@@ -344,7 +345,8 @@ heard-other most vc apid packets p other =
     ∙ append-nil (packets_of_key vc apid (heard most packets))
 
 other_next : (c : SentFile) (most vc apid : ℕ) (packets : List Good) (p : Good) (sent : List Good) →
-    is_of_key vc apid p ≡ false → Standing c most packets vc apid sent → Standing c most (packets ++ p ∷ []) vc apid sent
+    is_of_key vc apid p ≡ false → Standing c most packets vc apid sent →
+    Standing c most (packets ++ p ∷ []) vc apid sent
 other_next c most vc apid packets p sent other standing =
     let same : open_stretch (packets_of_key vc apid (heard most packets))
     ≡ open_stretch (packets_of_key vc apid (heard most (packets ++ p ∷ []))) =

@@ -16,6 +16,7 @@ use Rattle.lr_file.proofs.Stretches.{and_left, and_right, is_file-one, longer}
 use Rattle.lr_headers.specs.declared.fields.Structure.{Structure}
 use Rattle.lr_headers.specs.declared.fields.Lossless.{Lossless}
 use Rattle.lr_image.specs.Images.{line_form}
+use Rattle.lr_image.specs.declared.fault.ImageFault.{ImageFault}
 use Rattle.lr_image.specs.declared.shape.Shape.{Shape}
 use Rattle.lr_mend.specs.Laws.{packet_of}
 use Rattle.lr_mend.specs.Marks.{marked, whole_file}
@@ -50,8 +51,7 @@ opening_is body opening read opens =
     let rest = drop (length read.header.bytes) (drop 10 body) in
     let both : Some opening ≡ Some (opening_from read.shape rest) =
     sym opens ∙ ap (opening_in (drop 10 body)) read.is
-    ∙ ap (λ (r : Result Shape Rattle.lr_image.specs.declared.fault.ImageFault.ImageFault). opening_by r rest)
-    read.is_shape in
+    ∙ ap (λ (r : Result Shape ImageFault). opening_by r rest) read.is_shape in
     cc
 
 pub fits_of : (s : Structure) (lossless : Option Lossless) (sent : List Good) → AreAlike s lossless sent →
@@ -203,7 +203,8 @@ module _ (most : ℕ) (packets : List Good) (p : Good) (sent : List Good) (i : S
   alone_image : is_file (p ∷ []) ≡ true → HasImageLike i.picture (file_from p.vc p.apid (p ∷ []))
   alone_image is =
       let begins = only_begins p (and_left (eqb p.flags 3) _ (and_left _ _ (sym (is_file-one p) ∙ is))) in
-      elim (came_last sent (p ∷ []) (came_by true begins) [] p refl) as (λ _. HasImageLike i.picture (file_from p.vc p.apid (p ∷ []))) [
+      elim (came_last sent (p ∷ []) (came_by true begins) [] p refl) as
+      (λ _. HasImageLike i.picture (file_from p.vc p.apid (p ∷ []))) [
         | inl one ↦ subst (λ (l : List Good). HasImageLike i.picture (file_from p.vc p.apid l)) one.0 (record {
           other = i.picture;
           is = i.image;
@@ -222,7 +223,8 @@ module _ (most : ℕ) (packets : List Good) (p : Good) (sent : List Good) (i : S
       let both = and_left (eqb p.flags 2 && is_next (open_from t) p) (leb 10 (size_of (t ++ p ∷ []))) ending in
       let two = and_left (eqb p.flags 2) (is_next (open_from t) p) both in
       let none = no_beginning p 2 two refl refl in
-      elim (came_last sent (since p.vc p.apid packets ++ p ∷ []) (came_by false none) (since p.vc p.apid packets) p refl)
+      elim (came_last sent (since p.vc p.apid packets ++ p ∷ []) (came_by false none)
+      (since p.vc p.apid packets) p refl)
       as (λ _. HasImageLike i.picture (file_from p.vc p.apid (t ++ p ∷ []))) [
         | inl one ↦
             let begins = first_of_file p [] (ap is_file (sym one.0) ∙ i.is_one) in
@@ -239,9 +241,11 @@ module _ (most : ℕ) (packets : List Good) (p : Good) (sent : List Good) (i : S
             (subst (λ (l : List Good). Matches c l (t ++ p ∷ [])) (sym before.is) m)
       ]
 
-  packet_image : (file : File) → file_at (heard most packets ++ gap_before most packets p) p ≡ Some file → HasImageLike i.picture file
+  packet_image : (file : File) → file_at (heard most packets ++ gap_before most packets p) p ≡ Some file →
+      HasImageLike i.picture file
   packet_image file e =
-      elim (file_ends (heard most packets ++ gap_before most packets p) p file e) as (λ _. HasImageLike i.picture file) [
+      elim (file_ends (heard most packets ++ gap_before most packets p) p file e) as
+      (λ _. HasImageLike i.picture file) [
         | inl alone ↦ subst (HasImageLike i.picture) (sym alone.1) (alone_image alone.0)
         | inr on ↦ subst (HasImageLike i.picture) (sym on.1.1.1) (last_image on.0 on.1.0 on.1.1.0)
       ]
@@ -255,5 +259,6 @@ sent_images most packets p sent i came_of =
     map-append packet_of (mended_packets most packets) (map filler_of gap)
     ∙ ap (λ (l : List Good). heard most packets ++ l) (unflagged gap) in
     all_of (λ (m : MarkedFile). HasImageLike i.picture m.file) (mended_file before (came p))
-    (λ m e. image_of i.picture (file_at (map packet_of before) p) (seams_of p.vc p.apid (before ++ came p ∷ [])).fillers m e
+    (λ m e. image_of i.picture (file_at (map packet_of before) p)
+    (seams_of p.vc p.apid (before ++ came p ∷ [])).fillers m e
     (λ file at. packet_image most packets p sent i came_of file (ap (λ (l : List Good). file_at l p) (sym same) ∙ at)))

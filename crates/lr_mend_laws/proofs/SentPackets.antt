@@ -42,7 +42,8 @@ nothing_ends p (q ∷ ps) qs e = cc
 pub same_ends : (xs ys : List Good) (p q : Good) → xs ++ p ∷ [] ≡ ys ++ q ∷ [] → (xs ≡ ys) × (p ≡ q)
 same_ends [] [] p q e = (refl, (let h : p ≡ q = cc in h))
 same_ends [] (y ∷ ys) p q e = let h : [] ≡ ys ++ q ∷ [] = cc in absurd (nothing_ends q ys [] h)
-same_ends (x ∷ xs) [] p q e = let h : [] ≡ xs ++ p ∷ [] = (let g : xs ++ p ∷ [] ≡ [] = cc in sym g) in absurd (nothing_ends p xs [] h)
+same_ends (x ∷ xs) [] p q e =
+    let h : xs ++ p ∷ [] ≡ [] = cc in absurd (nothing_ends p xs [] (sym h))
 same_ends (x ∷ xs) (y ∷ ys) p q e =
     let h : x ≡ y = cc in
     let it = same_ends xs ys p q (let g : xs ++ p ∷ [] ≡ ys ++ q ∷ [] = cc in g) in

@@ -14,7 +14,7 @@ use Rattle.lr_headers.proofs.Readings.{headers_are_read}
 use Rattle.lr_headers.proofs.Tilings.{headers_are_one}
 use Rattle.lr_image.specs.Images.{HasPixels, IsImageOf, data_field, data_pieces, line_form}
 use Rattle.lr_image.specs.Picture.{Picture}
-use Rattle.lr_image.specs.Pieces.{GiveLines}
+use Rattle.lr_image.specs.Pieces.{GiveLines, pieces_after}
 use Rattle.lr_image.specs.Shapes.{shape_of}
 use Rattle.lr_image.specs.declared.shape.Shape.{Shape}
 use Rattle.lr_image.proofs.PlainLemmas.{length-written}
@@ -47,7 +47,8 @@ data_of first read others = drop (before_data first read) first ∷ others
 module _ (file : File) (first : List ℕ) (others : List (List ℕ)) (split : file.bodies ≡ first ∷ others)
     (read : FirstRead first) where
   first_has : IsHeaderOf (drop 10 first) read.header
-  first_has = of_header (drop 10 first) read.header (header_of (drop 10 first)) read.is (headers_are_read (drop 10 first))
+  first_has = of_header (drop 10 first) read.header (header_of (drop 10 first)) read.is
+      (headers_are_read (drop 10 first))
 
   pub inside : before_data first read ≤ length first
   inside =
@@ -65,7 +66,7 @@ module _ (file : File) (first : List ℕ) (others : List (List ℕ)) (split : fi
 
   pieces_are : data_pieces file (length read.header.bytes) ≡ some_of (data_of first read others)
   pieces_are =
-      ap (λ (bodies : List (List ℕ)). Rattle.lr_image.specs.Pieces.pieces_after (before_data first read) bodies) split
+      ap (λ (bodies : List (List ℕ)). pieces_after (before_data first read) bodies) split
       ∙ after_first (before_data first read) first others inside
 
   length-field : length (data_field file (length read.header.bytes)) + before_data first read ≡ length (bytes_of file)
@@ -82,13 +83,15 @@ module _ (file : File) (first : List ℕ) (others : List (List ℕ)) (split : fi
 
   -- where lines are coded it has an image, if its pieces have all lines
   pub coded_image : (l : Lossless) → read.shape.lossless ≡ Some l →
-      HaveLines (line_form read.shape.structure l) l.lines read.shape.structure.lines (some_of (data_of first read others)) →
+      HaveLines (line_form read.shape.structure l) l.lines read.shape.structure.lines
+      (some_of (data_of first read others)) →
       read.shape.structure.lines ≤ length (some_of (data_of first read others)) * l.lines → HasImage file
   coded_image l coded have all =
       let s = read.shape.structure in
       let it = gives (line_form s l) l.lines s.lines (some_of (data_of first read others)) have all in
       let has : HasPixels file (length read.header.bytes) s (Some l) it.0 =
-      subst (λ (pieces : List (List ℕ)). GiveLines (line_form s l) l.lines s.lines pieces it.0) (sym pieces_are) it.1 in (
+      subst (λ (pieces : List (List ℕ)). GiveLines (line_form s l) l.lines s.lines pieces it.0)
+      (sym pieces_are) it.1 in (
         record { bits = s.bits; columns = s.columns; lines = s.lines; pixels = it.0 },
         record {
           layout = record { header_bytes = length read.header.bytes; shape = read.shape };
@@ -118,7 +121,8 @@ module _ (file : File) (first : List ℕ) (others : List (List ℕ)) (split : fi
   -- what it has, if it has an image
   module _ (picture : Picture) (image : IsImageOf file picture) where
     same_header : image.has_layout.header ≡ read.header
-    same_header = headers_are_one (proper_of file) image.has_layout.header read.header image.has_layout.is_header file_has
+    same_header = headers_are_one
+        (proper_of file) image.has_layout.header read.header image.has_layout.is_header file_has
 
     pub same_shape : image.layout.shape ≡ read.shape
     same_shape =
@@ -130,8 +134,8 @@ module _ (file : File) (first : List ℕ) (others : List (List ℕ)) (split : fi
     has_pixels =
         let size = image.has_layout.is_size ∙ ap (λ (h : Header). length h.bytes) same_header in
         subst (λ (n : ℕ). HasPixels file n read.shape.structure read.shape.lossless picture.pixels) size
-        (subst (λ (s : Shape). HasPixels file image.layout.header_bytes s.structure s.lossless picture.pixels) same_shape
-        image.pixels)
+        (subst (λ (s : Shape). HasPixels file image.layout.header_bytes s.structure s.lossless picture.pixels)
+        same_shape image.pixels)
 
   pub coded_has : (l : Lossless) (pixels : List ℕ) →
       HasPixels file (length read.header.bytes) read.shape.structure (Some l) pixels →
@@ -159,7 +163,8 @@ module _ (sent mended : File) (first : List ℕ) (bodies others : List (List ℕ
   pub like : HasImage mended → HasImageLike picture mended
   like has =
       let same : has.1.layout.shape ≡ image.layout.shape =
-      same_shape mended first others splits read has.0 has.1 ∙ sym (same_shape sent first bodies split read picture image) in
+      same_shape mended first others splits read has.0 has.1
+      ∙ sym (same_shape sent first bodies split read picture image) in
       record {
         other = has.0;
         is = has.1;

@@ -174,7 +174,8 @@ some_filling most image p k many = by_can (can_fill image p) refl
         let some = and_left (ltb 0 (length (filling_of image p))) _ can in grind (arith, nat_tests, some)
     by_can false can = absurd (omega (arith, many, fillers_before-not most image p can))
 
-pub units_same : (most : ℕ) (image : Image) (p : Good) → image.coded ≡ false → (n : ℕ) → fillers_before most image p ≡ n →
+pub units_same : (most : ℕ) (image : Image) (p : Good) → image.coded ≡ false → (n : ℕ) →
+    fillers_before most image p ≡ n →
     unit_of image p * n ≡ n * length (filler_body image p)
 units_same most image p plain zero none = omega arith
 units_same most image p plain (suc k) many =
