@@ -1,10 +1,13 @@
 pub mod CodedPieces
+pub mod FilledGaps
 pub mod MadeImages
 pub mod MarkedHeaders
 pub mod MarkedImages
 pub mod MarkedShapes
+pub mod MendableImages
 pub mod MendedStretches
 pub mod OnlyImages
+pub mod OpenImages
 pub mod SentHistories
 pub mod SentImages
 pub mod SentPackets

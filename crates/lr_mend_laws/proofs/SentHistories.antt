@@ -332,7 +332,7 @@ gap_of-other most vc apid None p other = refl
 gap_of-other most vc apid (Some image) p other =
     others vc apid (filling_before image p) (fillers_before most image p) (count_after image.count) other
 
-heard-other : (most vc apid : ℕ) (packets : List Good) (p : Good) → is_of_key vc apid p ≡ false →
+pub heard-other : (most vc apid : ℕ) (packets : List Good) (p : Good) → is_of_key vc apid p ≡ false →
     packets_of_key vc apid (heard most (packets ++ p ∷ [])) ≡ packets_of_key vc apid (heard most packets)
 unfolding gap_before
 heard-other most vc apid packets p other =

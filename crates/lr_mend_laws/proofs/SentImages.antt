@@ -241,7 +241,7 @@ module _ (most : ℕ) (packets : List Good) (p : Good) (sent : List Good) (i : S
             (subst (λ (l : List Good). Matches c l (t ++ p ∷ [])) (sym before.is) m)
       ]
 
-  packet_image : (file : File) → file_at (heard most packets ++ gap_before most packets p) p ≡ Some file →
+  pub packet_image : (file : File) → file_at (heard most packets ++ gap_before most packets p) p ≡ Some file →
       HasImageLike i.picture file
   packet_image file e =
       elim (file_ends (heard most packets ++ gap_before most packets p) p file e) as

@@ -191,6 +191,10 @@ pub no_last : (x : Good) (xs : List Good) (p l : Good) (lost : List Good) →
     is_file ((x ∷ xs ++ p ∷ []) ++ (l ∷ lost)) ≡ true → p.flags ≡ 0
 no_last x xs p l lost is = (open_step x xs p (file_open x (xs ++ p ∷ []) l lost is)).flags
 
+-- and one after which none comes ends it
+pub last_flags : (x : Good) (xs : List Good) (p : Good) → is_file (x ∷ xs ++ p ∷ []) ≡ true → p.flags ≡ 2
+last_flags x xs p is = (file_step x xs p is).flags
+
 -- the first packet begins the file
 pub first_of_file : (x : Good) (xs : List Good) → is_file (x ∷ xs) ≡ true → begins_file x ≡ true
 first_of_file x [] is =

@@ -1,5 +1,6 @@
 pub mod MarkedHeaders
 pub mod MarkedImages
+pub mod MendableImages
 pub mod OnlyImages
 pub mod SentImages
 pub mod WholeImages

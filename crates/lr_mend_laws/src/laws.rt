@@ -2,6 +2,7 @@
 
 ghost use Rattle.lr_mend_laws.specs.MarkedHeaders.{MarkedHeaders};
 ghost use Rattle.lr_mend_laws.specs.MarkedImages.{MarkedImages};
+ghost use Rattle.lr_mend_laws.specs.MendableImages.{MendedImagesCome};
 ghost use Rattle.lr_mend_laws.specs.OnlyImages.{OnlyImages};
 ghost use Rattle.lr_mend_laws.specs.SentImages.{MadeImagesAreRead, SentImagesAreRead, StandingFilesAreRead};
 ghost use Rattle.lr_mend_laws.specs.WholeImages.{MadeEnds};
@@ -39,4 +40,10 @@ pub fn sent_images_are_read()
 /// Where an image was sent, and fillers stand for its last packets, the mended file has an image.
 pub fn made_images_are_read()
     ensures { MadeImagesAreRead }
+{}
+
+/// Where an image was sent, and no more of its packets are missing than it may have fillers, a file comes that has an
+/// image.
+pub fn mended_images_come()
+    ensures { MendedImagesCome }
 {}
