@@ -44,7 +44,7 @@ use Rattle.lr_mend_laws.proofs.SinceBeginning.{since-own}
 
 -- ---- what a file that was sent says of itself
 
-opening_is : (body : List ℕ) (opening : Opening) (read : FirstRead body) → opening_of body ≡ Some opening →
+pub opening_is : (body : List ℕ) (opening : Opening) (read : FirstRead body) → opening_of body ≡ Some opening →
     opening ≡ opening_from read.shape (drop (length read.header.bytes) (drop 10 body))
 unfolding opening_of
 opening_is body opening read opens =

@@ -120,7 +120,7 @@ module _ (file : File) (first : List ℕ) (others : List (List ℕ)) (split : fi
 
   -- what it has, if it has an image
   module _ (picture : Picture) (image : IsImageOf file picture) where
-    same_header : image.has_layout.header ≡ read.header
+    pub same_header : image.has_layout.header ≡ read.header
     same_header = headers_are_one
         (proper_of file) image.has_layout.header read.header image.has_layout.is_header file_has
 

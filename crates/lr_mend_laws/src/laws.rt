@@ -4,6 +4,7 @@ ghost use Rattle.lr_mend_laws.specs.MarkedHeaders.{MarkedHeaders};
 ghost use Rattle.lr_mend_laws.specs.MarkedImages.{MarkedImages};
 ghost use Rattle.lr_mend_laws.specs.MendableImages.{MendedImagesCome};
 ghost use Rattle.lr_mend_laws.specs.OnlyImages.{OnlyImages};
+ghost use Rattle.lr_mend_laws.specs.SamePixels.{KeptPixelsAreSame};
 ghost use Rattle.lr_mend_laws.specs.SentImages.{MadeImagesAreRead, SentImagesAreRead, StandingFilesAreRead};
 ghost use Rattle.lr_mend_laws.specs.WholeImages.{MadeEnds};
 
@@ -46,4 +47,9 @@ pub fn made_images_are_read()
 /// image.
 pub fn mended_images_come()
     ensures { MendedImagesCome }
+{}
+
+/// Where lines aren't coded, the pixels whose bits stand in bytes that both files have at one place are the same.
+pub fn kept_pixels_are_the_same()
+    ensures { KeptPixelsAreSame }
 {}
