@@ -8,6 +8,7 @@ pub mod MendableImages
 pub mod MendedStretches
 pub mod OnlyImages
 pub mod OpenImages
+pub mod SameLines
 pub mod SamePixels
 pub mod SentHistories
 pub mod SentImages

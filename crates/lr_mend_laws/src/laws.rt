@@ -4,7 +4,7 @@ ghost use Rattle.lr_mend_laws.specs.MarkedHeaders.{MarkedHeaders};
 ghost use Rattle.lr_mend_laws.specs.MarkedImages.{MarkedImages};
 ghost use Rattle.lr_mend_laws.specs.MendableImages.{MendedImagesCome};
 ghost use Rattle.lr_mend_laws.specs.OnlyImages.{OnlyImages};
-ghost use Rattle.lr_mend_laws.specs.SamePixels.{KeptPixelsAreSame};
+ghost use Rattle.lr_mend_laws.specs.SamePixels.{KeptLinesAreSame, KeptPixelsAreSame};
 ghost use Rattle.lr_mend_laws.specs.SentImages.{MadeImagesAreRead, SentImagesAreRead, StandingFilesAreRead};
 ghost use Rattle.lr_mend_laws.specs.WholeImages.{MadeEnds};
 
@@ -52,4 +52,9 @@ pub fn mended_images_come()
 /// Where lines aren't coded, the pixels whose bits stand in bytes that both files have at one place are the same.
 pub fn kept_pixels_are_the_same()
     ensures { KeptPixelsAreSame }
+{}
+
+/// Where lines are coded, the pixels of a piece that both files have at one place are the same.
+pub fn kept_lines_are_the_same()
+    ensures { KeptLinesAreSame }
 {}
