@@ -47,7 +47,7 @@ use Rattle.lr_headers.specs.declared.fields.Structure.{Structure}
 use Rattle.lr_headers.specs.declared.fields.Lossless.{Lossless}
 use Rattle.lr_mend_laws.specs.MendableImages.{IsMendable, MendedImagesCome}
 use Rattle.lr_mend_laws.specs.SentImages.{AreAlike, SentImage}
-use Rattle.lr_mend_laws.proofs.SentImages.{inside_first, packet_image, sent_file}
+use Rattle.lr_mend_laws.proofs.SentImages.{inside_first, packet_stands, standing_image, sent_file}
 use Rattle.lr_mend_laws.proofs.SentPackets.{each_front, each_of, gap_is}
 
 -- ---- a packet between
@@ -541,4 +541,5 @@ pub mended_come : MendedImagesCome
 mended_come most packets p sent came i d allowed since_is came_of many few =
     let it = ended (sent_file p.vc p.apid sent i) (mendable p.vc p.apid sent i d) most packets p allowed came since_is
     came_of many few (begins_file p) refl in
-    (it.0, (it.1, packet_image most packets p sent i (subst (Came sent) (sym since_is) came_of) it.0 it.1))
+    let stands = packet_stands most packets p sent i (subst (Came sent) (sym since_is) came_of) it.0 it.1 in
+    (it.0, (it.1, (stands, standing_image p.vc p.apid sent i it.0 stands)))

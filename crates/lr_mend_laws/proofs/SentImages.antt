@@ -28,6 +28,7 @@ use Rattle.lr_mend.specs.Openings.{Opening, opening_by, opening_from, opening_in
 use Rattle.lr_mend.specs.Seams.{seams_of}
 use Rattle.lr_mend.specs.declared.marks.MarkedFile.{MarkedFile}
 use Rattle.lr_mend.proofs.StayingFiles.{ends, file_stretch-end, heard, open_stretch, unflagged}
+use Rattle.lr_mend_laws.specs.SentImages.{StandFor, StandsForImage}
 use Rattle.lr_mend_laws.specs.SentImages.{AreAlike, Came, HasImageLike, HasLines, SentImage}
 use Rattle.lr_mend_laws.specs.SentImages.{SentImagesAreRead, since_beginning as since}
 use Rattle.lr_mend_laws.proofs.CodedPieces.{some_of}
@@ -58,6 +59,10 @@ pub fits_of : (s : Structure) (lossless : Option Lossless) (sent : List Good) �
     (size : ℕ) × EachOf (λ p. p.flags ≡ 0 → Fits s lossless size p.body) sent
 fits_of s None sent alike = (alike.0, each_of (λ p. p.flags ≡ 0 → length p.body ≡ alike.0) sent alike.1)
 fits_of s (Some l) sent alike = (0, each_of (λ p. p.flags ≡ 0 → HasLines (line_form s l) l.lines p.body) sent alike)
+
+same_stand : (s : Structure) (lossless : Option Lossless) (bodies : List (List ℕ)) → StandFor s lossless bodies bodies
+same_stand s lossless [] = tt
+same_stand s lossless (body ∷ bodies) = (inl refl, same_stand s lossless bodies)
 
 module _ (vc apid : ℕ) (sent : List Good) (i : SentImage vc apid sent) where
   abbrev pub read : FirstRead i.first.body
@@ -136,10 +141,28 @@ module _ (vc apid : ℕ) (sent : List Good) (i : SentImage vc apid sent) where
       }
 
   -- a file that matches all that was sent
-  pub matching_image : (t : List Good) → Matches sent_file sent t → HasImageLike i.picture (file_from vc apid t)
-  matching_image t m =
-      standing_files (file_from vc apid sent) (file_from vc apid t) i.picture i.image i.opening i.first.body
-      (bodies_of m.later) (bodies_of m.others) (ap bodies_of m.sent_is) (ap bodies_of m.is) i.opens m.stand
+  pub matching_stands : (t : List Good) → Matches sent_file sent t → StandsForImage i (file_from vc apid t)
+  matching_stands t m =
+      let same : m.later ≡ i.others =
+      (let h : i.first ∷ m.later ≡ i.first ∷ i.others = sym m.sent_is ∙ i.begins in cc) in
+      record {
+        others = bodies_of m.others;
+        bodies = ap bodies_of m.is;
+        stand = subst (λ (l : List Good). StandFor i.image.layout.shape.structure i.image.layout.shape.lossless
+            (bodies_of l) (bodies_of m.others)) same m.stand;
+      }
+
+  pub standing_image : (file : File) → StandsForImage i file → HasImageLike i.picture file
+  standing_image file it =
+      standing_files (file_from vc apid sent) file i.picture i.image i.opening i.first.body (bodies_of i.others)
+      it.others split it.bodies i.opens it.stand
+
+  pub sent_stands : StandsForImage i (file_from vc apid sent)
+  sent_stands = record {
+    others = bodies_of i.others;
+    bodies = split;
+    stand = same_stand i.image.layout.shape.structure i.image.layout.shape.lossless (bodies_of i.others);
+  }
 
 -- ---- the file that ends with a packet
 
@@ -200,32 +223,27 @@ module _ (most : ℕ) (packets : List Good) (p : Good) (sent : List Good) (i : S
       subst (Came sent) (since-own packets p
       ∙ ap (λ (b : Bool). cond b (p ∷ []) (since p.vc p.apid packets ++ p ∷ [])) is) came_of
 
-  alone_image : is_file (p ∷ []) ≡ true → HasImageLike i.picture (file_from p.vc p.apid (p ∷ []))
-  alone_image is =
+  alone_stands : is_file (p ∷ []) ≡ true → StandsForImage i (file_from p.vc p.apid (p ∷ []))
+  alone_stands is =
       let begins = only_begins p (and_left (eqb p.flags 3) _ (and_left _ _ (sym (is_file-one p) ∙ is))) in
       elim (came_last sent (p ∷ []) (came_by true begins) [] p refl) as
-      (λ _. HasImageLike i.picture (file_from p.vc p.apid (p ∷ []))) [
-        | inl one ↦ subst (λ (l : List Good). HasImageLike i.picture (file_from p.vc p.apid l)) one.0 (record {
-          other = i.picture;
-          is = i.image;
-          bits = refl;
-          columns = refl;
-          lines = refl;
-        })
+      (λ _. StandsForImage i (file_from p.vc p.apid (p ∷ []))) [
+        | inl one ↦ subst (λ (l : List Good). StandsForImage i (file_from p.vc p.apid l)) one.0
+            (sent_stands p.vc p.apid sent i)
         | inr before ↦ absurd (came_none before.sent [] before.before refl)
       ]
 
-  last_image : (t : List Good) →
+  last_stands : (t : List Good) →
       open_stretch (packets_of_key p.vc p.apid (heard most packets ++ gap_before most packets p)) ≡ Some t →
-      ends p t ≡ true → HasImageLike i.picture (file_from p.vc p.apid (t ++ p ∷ []))
+      ends p t ≡ true → StandsForImage i (file_from p.vc p.apid (t ++ p ∷ []))
   unfolding gap_before
-  last_image t e ending =
+  last_stands t e ending =
       let both = and_left (eqb p.flags 2 && is_next (open_from t) p) (leb 10 (size_of (t ++ p ∷ []))) ending in
       let two = and_left (eqb p.flags 2) (is_next (open_from t) p) both in
       let none = no_beginning p 2 two refl refl in
       elim (came_last sent (since p.vc p.apid packets ++ p ∷ []) (came_by false none)
       (since p.vc p.apid packets) p refl)
-      as (λ _. HasImageLike i.picture (file_from p.vc p.apid (t ++ p ∷ []))) [
+      as (λ _. StandsForImage i (file_from p.vc p.apid (t ++ p ∷ []))) [
         | inl one ↦
             let begins = first_of_file p [] (ap is_file (sym one.0) ∙ i.is_one) in
             let never : true ≡ false = sym begins ∙ none in
@@ -237,17 +255,17 @@ module _ (most : ℕ) (packets : List Good) (p : Good) (sent : List Good) (i : S
             before.before in
             let m = matches_gap c most packets p before.sent before.missing stands later before.few
             (open_image most p.vc p.apid packets) refl t e (and_right (eqb p.flags 2) (is_next (open_from t) p) both) in
-            matching_image p.vc p.apid sent i (t ++ p ∷ [])
+            matching_stands p.vc p.apid sent i (t ++ p ∷ [])
             (subst (λ (l : List Good). Matches c l (t ++ p ∷ [])) (sym before.is) m)
       ]
 
-  pub packet_image : (file : File) → file_at (heard most packets ++ gap_before most packets p) p ≡ Some file →
-      HasImageLike i.picture file
-  packet_image file e =
+  pub packet_stands : (file : File) → file_at (heard most packets ++ gap_before most packets p) p ≡ Some file →
+      StandsForImage i file
+  packet_stands file e =
       elim (file_ends (heard most packets ++ gap_before most packets p) p file e) as
-      (λ _. HasImageLike i.picture file) [
-        | inl alone ↦ subst (HasImageLike i.picture) (sym alone.1) (alone_image alone.0)
-        | inr on ↦ subst (HasImageLike i.picture) (sym on.1.1.1) (last_image on.0 on.1.0 on.1.1.0)
+      (λ _. StandsForImage i file) [
+        | inl alone ↦ subst (StandsForImage i) (sym alone.1) (alone_stands alone.0)
+        | inr on ↦ subst (StandsForImage i) (sym on.1.1.1) (last_stands on.0 on.1.0 on.1.1.0)
       ]
 
 pub sent_images : SentImagesAreRead
@@ -261,4 +279,5 @@ sent_images most packets p sent i came_of =
     all_of (λ (m : MarkedFile). HasImageLike i.picture m.file) (mended_file before (came p))
     (λ m e. image_of i.picture (file_at (map packet_of before) p)
     (seams_of p.vc p.apid (before ++ came p ∷ [])).fillers m e
-    (λ file at. packet_image most packets p sent i came_of file (ap (λ (l : List Good). file_at l p) (sym same) ∙ at)))
+    (λ file at. standing_image p.vc p.apid sent i file
+    (packet_stands most packets p sent i came_of file (ap (λ (l : List Good). file_at l p) (sym same) ∙ at))))

@@ -8,7 +8,7 @@ use Rattle.lr_file.specs.Files.{file_at}
 use Rattle.lr_mend.specs.Laws.{packet_of}
 use Rattle.lr_mend.specs.Mending.{gap_before, mended_packets}
 use Rattle.lr_mend.specs.Openings.{units_in}
-use Rattle.lr_mend_laws.specs.SentImages.{BodiesBetween, Came, HasImageLike, SentImage, since_beginning}
+use Rattle.lr_mend_laws.specs.SentImages.{BodiesBetween, Came, HasImageLike, SentImage, StandsForImage, since_beginning}
 use Rattle.lr_packet.specs.Verdict.{Good}
 
 -- Of an image that was sent: something of it is still wanted before its last packet, so no fillers end it before. The
@@ -26,7 +26,8 @@ pub record IsMendable (vc apid : ℕ) (sent : List Good) (image : SentImage vc a
   pub counted : image.first.count < SEQUENCE_COUNTS
 
 -- The first packet of such an image came, its last one and one between at least, and no more are missing than an image
--- may have fillers. Then a file ends with the last one among the mended packets, and it has an image like that.
+-- may have fillers. Then a file ends with the last one among the mended packets. It stands for the image that was sent,
+-- and has one like it.
 abbrev pub MendedImagesCome : Type 0
 MendedImagesCome = (most : ℕ) (packets : List Good) (packet : Good) (sent came : List Good) →
     (image : SentImage packet.vc packet.apid sent) → IsMendable packet.vc packet.apid sent image → 0 < most →
@@ -34,4 +35,4 @@ MendedImagesCome = (most : ℕ) (packets : List Good) (packet : Good) (sent came
     2 < length came → length sent ≤ length came + most →
     (file : File)
     × ((file_at (map packet_of (mended_packets most packets) ++ gap_before most packets packet) packet ≡ Some file)
-    × HasImageLike image.picture file)
+    × (StandsForImage image file × HasImageLike image.picture file))

@@ -5,7 +5,7 @@ use Rattle.std.specs.Prelude.{if◌then◌else◌, option_to_list, All}
 use Rattle.lr_bits.specs.Bits.{bits_of}
 use Rattle.lr_bits.specs.File.{File}
 use Rattle.lr_bits.specs.declared.sizes.TheConstants.{SEQUENCE_COUNTS}
-use Rattle.lr_file.specs.Files.{file_from, is_file, packets_of_key}
+use Rattle.lr_file.specs.Files.{bodies_of, file_from, is_file, packets_of_key}
 use Rattle.lr_headers.specs.declared.fields.Structure.{Structure}
 use Rattle.lr_headers.specs.declared.fields.Lossless.{Lossless}
 use Rattle.lr_image.specs.Images.{IsImageOf, line_form}
@@ -90,6 +90,14 @@ pub record SentImage (vc apid : ℕ) (sent : List Good) : Type 0 where
   pub opening : Opening
   pub opens : opening_of first.body ≡ Some opening
   pub alike : AreAlike image.layout.shape.structure image.layout.shape.lossless sent
+
+-- The file stands for an image that was sent: its first body is that of the image, and each other one the body in its
+-- place, or a filler that can stand for it.
+pub record StandsForImage {vc apid : ℕ} {sent : List Good} (image : SentImage vc apid sent) (file : File) : Type 0 where
+  pub others : List (List ℕ)
+  pub bodies : file.bodies ≡ image.first.body ∷ others
+  pub stand : StandFor image.image.layout.shape.structure image.image.layout.shape.lossless
+      (bodies_of image.others) others
 
 -- An image was sent, and its first packet, its last one and some between came. The mended file that ends with the last
 -- one, if one does, has an image like it.
