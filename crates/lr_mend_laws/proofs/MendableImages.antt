@@ -384,6 +384,11 @@ last_file ps p t is ending =
     ∙ ap (option_map (file_from p.vc p.apid)) (file_stretch-end qs p
     ∙ on_with (ends p) p (is_file (p ∷ [])) t (open_stretch qs) is ending)
 
+size_with : (t gap : List Good) (p : Good) (r : List Good) → r ≡ t ++ gap →
+    size_of (r ++ p ∷ []) ≡ size_of t + size_of gap + length p.body
+size_with t gap p r is =
+    size_of-append r (p ∷ []) ∙ (λ i. (ap size_of is ∙ size_of-append t gap) i + size_of-one p i)
+
 least : (k : ℕ) → 10 ≤ k → leb 10 k ≡ true
 least k some = grind (arith, nat_tests, some)
 
@@ -428,12 +433,10 @@ ended c d most packets p some came since_is came_of many few false is =
           (now_few c d most packets p b.sent b.missing n it) (omega (arith, size, product, body, d.fits)) in
           let gap = fillers_from (filling_before it.opened.image p) (fillers_before most it.opened.image p)
           (count_after it.opened.image.count) in
+          let at_t : List Good = it.opened.t in
           let first : size_of it.opened.t ≡ length c.first.body + size_of m.others =
           ap size_of m.is ∙ length-append c.first.body (concat (bodies_of m.others)) in
-          let bytes : size_of (r ++ p ∷ []) ≡ size_of it.opened.t + size_of gap + length p.body =
-          size_of-append r (p ∷ [])
-          ∙ (λ i. (ap size_of (now_is c d most packets p b.sent b.missing n it) ∙ size_of-append it.opened.t gap) i
-          + size_of-one p i) in
+          let bytes = size_with at_t gap p r (now_is c d most packets p b.sent b.missing n it) in
           let ten = least (size_of (r ++ p ∷ [])) (omega (arith, first, bytes, d.ten)) in
           let flag : eqb p.flags 2 ≡ true = ap (λ (k : ℕ). eqb k 2) two in (
             file_from p.vc p.apid (r ++ p ∷ []),
