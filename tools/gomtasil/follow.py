@@ -1,12 +1,18 @@
-"""Takes each file off a shelf once, as it comes, also beside a receiver that writes to the shelf."""
+"""Takes each file off a shelf once, as it comes, and prints its number and its name. With --watch it goes on until a
+signal ends it.
 
-from __future__ import annotations
+A file comes as DAY/LABEL-NUMBER-ANNOTATION: the day (UTC) on which it was taken, the shelf's name (with -2, -3 and so
+on where shelves of one name are different ones), the number, and the name that the file brings, in which every
+character but letters, digits, dots, hyphens and underscores becomes an underscore. Files whose checksum is wrong are
+left out, with a word, and so are discarded ones. A file that is discarded after it was taken moves into
+FOLDER/discarded. What was taken is kept in FOLDER/.follow; where that is removed all is taken again.
+"""
 
 import os
 import subprocess
 import sys
 import time
-from collections.abc import Callable, Iterable, Iterator
+from collections.abc import Callable, Iterable, Iterator, Sequence
 from dataclasses import dataclass
 
 from . import folder as folders
@@ -31,10 +37,10 @@ class Wishes:
     """Which files are taken, and what is done with them."""
 
     product_of: ProductOf = whole_file
-    patterns: tuple[str, ...] = ()  # of annotations; where there is none, all files
-    applications: tuple[int, ...] = ()
+    patterns: Sequence[str] = ()  # of annotations; where there is none, all files
+    applications: Sequence[int] = ()
     prefix: str = ""  # of the label
-    command: tuple[str, ...] = ()  # that is run for each file; {} stands for its path
+    command: Sequence[str] = ()  # that is run for each file; {} stands for its path
     keep_days: int | None = None  # after which the folder of a day goes
 
     def wants(self, file: StoredFile) -> bool:

@@ -1,7 +1,9 @@
-"""Where the pixels of an image lie: its navigation record, the GEOS projection of CGMS 03 (section 4.4.3.2), and the
-GeoTIFF of TIFF 6.0 and GeoTIFF 1.0."""
+"""Writes the image to which file N belongs, its segments put together, as a GeoTIFF, placed by its navigation record.
+That has to name the projection GEOS with the longitude below the satellite, as geos(-75.2). Pixels stay as they are: 8
+bits, or 16 where they have more.
+"""
 
-from __future__ import annotations
+# The projection is that of CGMS 03 (section 4.4.3.2), and the file that of TIFF 6.0 and GeoTIFF 1.0.
 
 import math
 import re
@@ -81,10 +83,10 @@ class Placement(NamedTuple):
         return column, line
 
 
-def placement_of(header: xrit.Header | None, is_whole: bool = False) -> Placement:
+def placement_of(header: xrit.Header, is_whole: bool = False) -> Placement:
     """Where an image lies, or the whole one of which it is a segment. ShelfError where its header doesn't say it."""
-    found = header.navigation if header else None
-    if not header or not found:
+    found = header.navigation
+    if not found:
         raise ShelfError("the file has no navigation record")
     match = re.fullmatch(rb"GEOS\(([-+]?\d{1,3}(?:\.\d+)?)\)", found.name.strip(b"\0 "), re.IGNORECASE)
     if not match:
@@ -111,7 +113,7 @@ def whole_image(shelf: Shelf, number: int) -> tuple[Picture, Placement, segments
     if picture is None:
         raise ShelfError(f"file {number} has no image that can be had here")
     header = leading.header
-    if header and first.segment and is_counted_within(header):
+    if first.segment and is_counted_within(header):
         # (such an offset counts from the segment's first line, which is that of the whole image where it is the first
         # one)
         lines = header.structure.lines if header.structure else 0

@@ -63,23 +63,8 @@ def group_of(bits: int) -> tuple[int, int]:
     return size, size * BYTE_BITS // bits
 
 
-def big_endian(values: array.array[int]) -> bytes:
-    """The bytes of an array of numbers, most significant first."""
-    if values.itemsize > 1 and sys.byteorder == "little":
-        values.byteswap()
-    return values.tobytes()
-
-
-def swapped(pixels: bytes) -> bytes:
-    """Pairs of bytes in the other order."""
-    values = array.array("H", pixels)
-    values.byteswap()
-    return values.tobytes()
-
-
-def words_of(pixels: bytes) -> array.array[int]:
-    """The numbers in pairs of bytes, most significant first."""
-    values = array.array("H", pixels)
+def big_endian(values: array.array[int]) -> array.array[int]:
+    """Numbers whose bytes are to be, or were, the most significant ones first."""
     if sys.byteorder == "little":
         values.byteswap()
     return values
@@ -98,14 +83,14 @@ def unpacked(data: bytes, bits: int, count: int) -> bytes:
     for at in range(0, -(-count // pixels) * size, size):
         group = int.from_bytes(data[at : at + size].ljust(size, b"\0"), "big")
         values.extend([group >> shift & most for shift in shifts])
-    return big_endian(values[:count])
+    return big_endian(values[:count]).tobytes()
 
 
 def packed(picture: Picture) -> bytes:
     """The pixels of a picture one after another, each in its bits; zeros after the last one up to a whole byte."""
     if picture.bits in (BYTE_BITS, WORD_BITS):
         return picture.pixels
-    values = array.array("H", picture.pixels if picture.width == 1 else words_of(picture.pixels))
+    values = big_endian(array.array("B" if picture.width == 1 else "H", picture.pixels))
     size, pixels = group_of(picture.bits)
     count = len(values)
     values.extend([0] * (-count % pixels))
@@ -166,11 +151,10 @@ def read_image(data: bytes) -> Image | None:
 
 def is_coded(file: StoredFile) -> bool:
     """Whether the program has to be asked for the image of a file."""
-    header, structure = file.header, file.structure
-    if not header or not structure or not file.is_open_image or texts.ending_of(file.data):
+    structure = file.header.structure
+    if not structure or not file.header.is_open_image or texts.ending_of(file.data):
         return False
-    is_small = structure.columns * structure.lines <= MOST_EXPORTED_PIXELS
-    return structure.compression == xrit.LOSSLESS and header.is_lossless and is_small
+    return structure.compression == xrit.LOSSLESS and file.header.is_lossless and structure.area <= MOST_EXPORTED_PIXELS
 
 
 def picture_of(file: StoredFile) -> Picture | None:
@@ -183,8 +167,8 @@ def pictures_of(files: Iterable[StoredFile | None]) -> Iterator[Picture | None]:
     batch: list[StoredFile | None] = []
     size = pixels = 0
     for file in files:
-        structure = file.structure if file else None
-        area = structure.columns * structure.lines if structure else 0
+        structure = file.header.structure if file else None
+        area = structure.area if structure else 0
         if file and batch and (size + len(file.item) > MOST_BATCH_BYTES or pixels + area > MOST_BATCH_PIXELS):
             yield from batch_pictures(batch)
             batch, size, pixels = [], 0, 0
@@ -196,14 +180,15 @@ def pictures_of(files: Iterable[StoredFile | None]) -> Iterator[Picture | None]:
 def batch_pictures(files: list[StoredFile | None]) -> Iterator[Picture | None]:
     exported = iter(exports_of([file.item for file in files if file and is_coded(file)]))
     for file in files:
-        if not file or not file.structure or not file.is_open_image:
+        structure = file.header.structure if file else None
+        if not file or not structure or not file.header.is_open_image:
             yield None
         elif is_coded(file):
             yield next(exported)
         elif texts.ending_of(file.data):
             yield read_picture(file.data)
         else:
-            yield plain_picture(file.structure, file.data)
+            yield plain_picture(structure, file.data)
 
 
 def exports_of(items: list[bytes]) -> list[Picture | None]:
@@ -275,19 +260,15 @@ def image_of(picture: Picture) -> Image:
     if picture.width == 1:
         image = Image.frombytes("L", size, picture.pixels)
         return image if picture.bits == BYTE_BITS else image.point([min(it, most) * 255 // most for it in range(256)])
-    image = Image.frombytes("I;16", size, swapped(picture.pixels))  # (whose bytes are the least significant first)
-    scale = 65535 / most
+    words = array.array("H", picture.pixels)
+    words.byteswap()  # (that mode has the least significant byte first)
+    image, scale = Image.frombytes("I;16", size, words.tobytes()), 65535 / most
     return image if picture.bits == WORD_BITS else image.point(lambda it: it * scale + ROUNDING)
 
 
 def grey_of(picture: Picture) -> Image:
     """The same with 8 bits a pixel: of more the first ones."""
-    from PIL import Image
-
-    image = image_of(picture)
-    if picture.width == 1:
-        return image
-    return Image.frombytes("L", image.size, image.tobytes()[1::2])
+    return levels_of(image_of(picture))
 
 
 def png_of(picture: Picture) -> bytes:

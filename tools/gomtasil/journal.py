@@ -3,15 +3,13 @@
 A log isn't kept in memory: of 10^6 files it has some 120 MB. Its last line says where to go on, and the line of a file
 is found by halving, since the count of files grows along it. """
 
-from __future__ import annotations
-
 import fcntl
 import hashlib
 import itertools
 import json
 import os
 from collections.abc import Collection, Iterator
-from typing import NamedTuple
+from typing import NamedTuple, Self
 
 from . import folder as folders
 from .shelf import Head, Shelf, label_of
@@ -43,7 +41,7 @@ class Line(NamedTuple):
         return " ".join(map(str, self)) + "\n"
 
     @classmethod
-    def of(cls, text: str) -> Line:
+    def of(cls, text: str) -> Self:
         # (lines of an earlier version have no sum of the file)
         what, number, files, gate, extent, found, name, *rest = text.split(" ")
         (file_sum,) = rest or (NO_SUM,)

@@ -1,5 +1,7 @@
-"""Coasts and borders over an image, placed by its navigation record. The lines come from GMT (`gmt coast -M`), or from
-a file of the same form: a longitude and a latitude a line, and a line that begins with > between two polygons."""
+"""Writes the image to which file N belongs as a PNG, with coasts and borders by its navigation record. The lines come
+from GMT (apt-get install gmt gmt-gshhg-low), or from a file of the same form: a longitude and a latitude a line, and a
+line that begins with > between two polygons.
+"""
 
 from __future__ import annotations
 

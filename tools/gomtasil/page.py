@@ -1,8 +1,9 @@
-"""A page about a shelf, or about the shelves of a station's folder: its newest pictures and bulletins, how well it
-goes, what came on which channel, and what is missing. Jinja2 writes it, with every text quoted; page.html is its
-form."""
+"""Writes FOLDER/index.html, with pictures in FOLDER/pictures, about a shelf or about all shelves of a station's folder:
+the newest picture of each kind and older ones, bulletins in groups, how it goes, how well it came, and what is missing.
+The page needs no network and no script, and loads itself anew. Pictures that it doesn't name any more are removed.
+"""
 
-from __future__ import annotations
+# Jinja2 writes the page, with every text quoted; page.html is its form.
 
 import collections
 import datetime
@@ -12,7 +13,7 @@ import re
 import time
 from collections.abc import Iterable, Iterator
 from dataclasses import dataclass, field
-from typing import Any, NamedTuple
+from typing import Any, NamedTuple, Self
 
 from . import folder as folders
 from . import images, products, program, quality, segments, station, texts, xrit
@@ -32,8 +33,8 @@ COUNTER_MODULUS = 65_536
 MOST_GAP = 1000  # file counters that may be missing in a row; a greater step is a new start
 HASH_DIGITS = 24  # of the name of a picture
 MOST_STRETCHES = 240  # of the curve
-CURVE = {"width": 720, "height": 200, "left": 44, "right": 712, "bottom": 172, "top": 12}
 HOUR, DAY = 3600, 86_400  # seconds
+STAMP_FORM = "%Y-%m-%d %H:%M:%S"
 STATE = ".page"  # in the page's folder
 OWN_PICTURE = re.compile(
     r"([A-Za-z0-9._~-]*-)?[0-9]{6,}-[0-9a-f]{24}(-small|-large)?\.(png|jpg|gif)|\..*\.[0-9]+\.part"
@@ -124,7 +125,7 @@ class Summary:
     points: list[tuple[float, float]] = field(default_factory=list)  # corrected bytes a frame, over frames
 
     @classmethod
-    def of(cls, kept: dict[str, Any]) -> Summary:
+    def of(cls, kept: dict[str, Any]) -> Self:
         def place(row: Any) -> Place:
             gate, extent, number, is_discard = row[0]
             return Place(Head(int(gate), int(extent), int(number), bool(is_discard)), int(row[1]), int(row[2]))
@@ -191,7 +192,7 @@ class Walk:
 
 def summary_of(shelf: Shelf, newest: int, gone: frozenset[int] = frozenset()) -> Summary:
     """What the fronts of a shelf's files tell, without these. Where further ones are discarded it begins anew."""
-    walk, pieces, discarded = Walk(newest), Pieces(shelf), set()
+    walk, pieces, discarded = Walk(newest), Pieces(shelf.read), set()
     try:
         for head in shelf.heads():
             if head.is_discard:
@@ -320,16 +321,13 @@ class Pictures:
                 os.unlink(os.path.join(folder, name))
 
 
-def stamp_of(file: StoredFile) -> str:
-    return f"{file.stamp:%Y-%m-%d %H:%M:%S}" if file.stamp else ""
-
-
 def shown_image(pictures: Pictures, source: Source, group: Group, place: Place) -> Shown:
     product = products.product_of(group.name)
     picture, thumbnail = pictures.of_group(source.shelf, group)
     note = group.note if picture else "this image can't be shown here"
     numbers = segments.in_words(sorted(group.numbers))
-    found = Shown(numbers, group.name, product.words, stamp_of(group.file), source.came(place), "image", note)
+    when = group.file.header.stamped(STAMP_FORM)
+    found = Shown(numbers, group.name, product.words, when, source.came(place), "image", note)
     found.picture, found.thumbnail, found.is_full_disk = picture, thumbnail, product.is_full_disk
     return found
 
@@ -337,8 +335,8 @@ def shown_image(pictures: Pictures, source: Source, group: Group, place: Place) 
 def shown_other(pictures: Pictures, source: Source, file: StoredFile, place: Place) -> list[Shown]:
     """A file that is no image: its texts as one bulletin, each picture in it, or just its name."""
     header, name = file.header, texts.name_of(file)
-    kind = f"type {header.file_type}" if header else "header with a fault"
-    plain = Shown(str(file.number), name, name, stamp_of(file), source.came(place), kind)
+    kind = "header with a fault" if header.file_type == xrit.FAULTY else f"type {header.file_type}"
+    plain = Shown(str(file.number), name, name, header.stamped(STAMP_FORM), source.came(place), kind)
     inside = texts.inside(file)
     found = [
         (member, data.decode("utf-8")) for member, data in inside.items() if member.lower().endswith(texts.TEXT_ENDING)
@@ -393,92 +391,62 @@ class Content:
 
     def kinds(self) -> list[list[Shown]]:
         """Pictures by what they show: the full disks first, and then by their words."""
-        found: dict[str, list[Shown]] = {}
+        rows = collections.defaultdict(list)
         for it in self.pictures:
-            found.setdefault(it.words, []).append(it)
-        return sorted(found.values(), key=lambda row: (not row[0].is_full_disk, row[0].words))
+            rows[it.words].append(it)
+        return sorted(rows.values(), key=lambda row: (not row[0].is_full_disk, row[0].words))
 
     def groups(self) -> list[tuple[str, list[Shown]]]:
-        found: dict[str, list[Shown]] = {}
+        rows = collections.defaultdict(list)
         for it in self.bulletins:
-            found.setdefault(it.group, []).append(it)
-        return sorted(found.items(), key=lambda row: products.place_of_group(row[0]))
+            rows[it.group].append(it)
+        return sorted(rows.items(), key=lambda row: products.place_of_group(row[0]))
 
     def hero(self) -> Shown | None:
         """The newest full disk; where there is none, the newest picture."""
-        full = [it for it in self.pictures if it.is_full_disk]
-        found = sorted(full or self.pictures, key=lambda it: it.when)
-        return next(
-            (it for it in self.pictures if found and it.when == found[-1].when and (it.is_full_disk or not full)), None
-        )
+        found = [it for it in self.pictures if it.is_full_disk] or self.pictures
+        return max(found, key=lambda it: it.when) if found else None
 
 
 # ---- how well it came
 
 
-def curve_of(
-    points: list[tuple[float, float]], lost: list[tuple[float, float, str]], ticks: list[str]
-) -> dict[str, Any] | None:
-    """The drawing of corrected bytes a frame over something between 0 and 1, and the shares that were lost as bars."""
-    if not points:
-        return None
-    width, height = CURVE["right"] - CURVE["left"], CURVE["bottom"] - CURVE["top"]
+class Curve(NamedTuple):
+    """Corrected bytes a frame, and the shares of frames that were lost with words, over something between 0 and 1."""
 
-    def x_of(x: float) -> float:
-        return round(CURVE["left"] + width * x, 1)
+    points: list[tuple[float, float]]
+    lost: list[tuple[float, float, str]]
+    ticks: list[str]
+    over: str
 
-    def y_of(y: float) -> float:
-        return round(CURVE["bottom"] - height * min(y, CORRECTABLE_BYTES) / CORRECTABLE_BYTES, 1)
 
-    places = [(x_of(x), y_of(y)) for x, y in points]
-    bar = max(2.0, round(width / MOST_STRETCHES, 1))
-    anchors = ["start", *["middle"] * (len(ticks) - 2), "end"]
-    return {
-        **CURVE,
-        "levels": [{"y": y_of(it), "text": it} for it in range(0, CORRECTABLE_BYTES + 1, CORRECTABLE_BYTES // 4)],
-        "points": places,
-        "path": "M" + " L".join(f"{x} {y}" for x, y in places),
-        "lost": [
-            {
-                "x": x_of(x),
-                "y": round(CURVE["bottom"] - height * share, 1),
-                "height": round(height * share, 1),
-                "width": bar,
-                "text": text,
-            }
-            for x, share, text in lost
-            if share
-        ],
-        "ticks": [
-            {"x": x_of(place / max(1, len(ticks) - 1)), "text": text, "anchor": anchor}
-            for place, (text, anchor) in enumerate(zip(ticks, anchors))
-        ],
-    }
+def clocks(begin: float, end: float) -> list[str]:
+    """Hours and minutes at five places of the same distances."""
+    return [clock(begin + (end - begin) * place / 4) for place in range(5)]
 
 
 def clock(seconds: float) -> str:
     return time.strftime("%H:%M", time.gmtime(seconds))
 
 
-def curve_of_minutes(minutes: list[quality.Minute]) -> dict[str, Any] | None:
+def curve_of_minutes(minutes: list[quality.Minute]) -> Curve:
     """The curve of the last day, from the minutes that a station's folder keeps."""
     begin, end = minutes[0].time, max(minutes[-1].time, minutes[0].time + HOUR)
     rows: dict[int, list[quality.Minute]] = {}
     for it in minutes:
         rows.setdefault(int((it.time - begin) * MOST_STRETCHES / (end - begin + 1)), []).append(it)
-    points, lost = [], []
+    curve = Curve([], [], clocks(begin, end), "the last day, in UTC")
     for key, row in sorted(rows.items()):
         sum_ = quality.total(row)
         if sum_.frames > sum_.lost:
-            points.append((key / MOST_STRETCHES, sum_.corrected / (sum_.frames - sum_.lost)))
-        text = f"{clock(row[0].time)} UTC: {sum_.lost} of {sum_.frames} frames lost"
-        lost.append((key / MOST_STRETCHES, sum_.lost / sum_.frames if sum_.frames else 0, text))
-    ticks = [clock(begin + (end - begin) * place / 4) for place in range(5)]
-    curve = curve_of(points, lost, ticks)
-    return curve and {**curve, "over": "the last day, in UTC"}
+            curve.points.append((key / MOST_STRETCHES, sum_.corrected / (sum_.frames - sum_.lost)))
+        if sum_.lost:
+            text = f"{clock(row[0].time)} UTC: {sum_.lost} of {sum_.frames} frames lost"
+            curve.lost.append((key / MOST_STRETCHES, sum_.lost / sum_.frames, text))
+    return curve
 
 
-def curve_of_frames(source: Source) -> dict[str, Any] | None:
+def curve_of_frames(source: Source) -> Curve | None:
     """The curve of a shelf, over its frames, or over time where the rate is known."""
     points = source.summary.points
     if not points:
@@ -487,11 +455,8 @@ def curve_of_frames(source: Source) -> dict[str, Any] | None:
     scaled = [((x - first) / (last - first) if last > first else 0.5, y) for x, y in points]
     if source.rate and not source.summary.receptions:
         begin = source.changed - (source.summary.last_frame - first) * FRAME_SYMBOLS / source.rate
-        ticks, over = [clock(begin + (source.changed - begin) * it / 4) for it in range(5)], "time, in UTC"
-    else:
-        ticks, over = [f"frame {first:.0f}", f"frame {last:.0f}"], "its frames"
-    curve = curve_of(scaled, [], ticks)
-    return curve and {**curve, "over": over}
+        return Curve(scaled, [], clocks(begin, source.changed), "time, in UTC")
+    return Curve(scaled, [], [f"frame {first:.0f}", f"frame {last:.0f}"], "its frames")
 
 
 def losses_of(path: str) -> tuple[int, int]:
@@ -667,4 +632,5 @@ def jinja() -> Any:
 def rendered(values: dict[str, Any], wishes: Wishes) -> str:
     written = datetime.datetime.now(datetime.timezone.utc)
     constants = {"correctable": CORRECTABLE_BYTES, "most_text": MOST_TEXT_CHARACTERS, "refresh": wishes.refresh}
+    constants["stretches"] = MOST_STRETCHES
     return str(jinja().render(**values, **constants, written=f"{written:%Y-%m-%d %H:%M}"))

@@ -1,7 +1,5 @@
 """What all commands share: the words that they say, the signals that end them, and calls of the proved program."""
 
-from __future__ import annotations
-
 import os
 import signal
 import subprocess

@@ -1,11 +1,8 @@
-"""Draws some minutes of a downlink like that of GOES, as frames for `lritstation SHELF receive --input frames`.
-
-There is an earth in four segments, a bulletin and a zip with a bulletin in it, and fill between them. Nothing of it
-comes from a satellite: coasts are a few hundred corners, and the clouds are sums of waves. A frame has 892 bytes, as
-16,384 symbols carry it.
+"""Draws some minutes of a downlink like that of GOES, as frames of 892 bytes on standard output: an earth in four
+segments, a bulletin, another one in a zip, and fill between. Nothing of it comes from a satellite.
 """
 
-from __future__ import annotations
+# Coasts are a few hundred corners, and the clouds are sums of waves.
 
 import datetime
 import io

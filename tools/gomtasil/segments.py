@@ -1,8 +1,6 @@
 """Which files are parts of one picture: the segment records of NOAA, of Himawari and GK-2A, and of ELEKTRO. Which form
 a record has, its length says."""
 
-from __future__ import annotations
-
 import re
 import struct
 from collections.abc import Iterable, Iterator
@@ -35,10 +33,8 @@ class Segment(NamedTuple):
 
 def segment_of(file: StoredFile) -> Segment | None:
     """The segment that a file is, by any of the three forms of record, or None."""
-    header = file.header
-    found = header and header.first(xrit.SEGMENT_KIND)
-    structure = header and header.structure
-    if not found or not header or not structure or not header.is_image:
+    found, structure = file.header.first(xrit.SEGMENT_KIND), file.header.structure
+    if not found or not structure or not file.header.is_image:
         return None
     whose = (file.fields.channel, file.fields.application)
     if len(found) == NOAA.size:
@@ -55,8 +51,7 @@ def segment_of(file: StoredFile) -> Segment | None:
     else:
         return None
     count = last - first + 1
-    pixels = structure.columns * structure.lines * count
-    if not first <= number <= last or count > MOST_SEGMENTS or pixels > MOST_PIXELS:
+    if not first <= number <= last or count > MOST_SEGMENTS or structure.area * count > MOST_PIXELS:
         return None
     name = unnumbered(texts.name_of(file), number)
     key = (*whose, structure.bits, structure.columns, count, band, name)
@@ -119,11 +114,11 @@ class Group:
     @property
     def area(self) -> int:
         """The pixels of the whole picture."""
-        structure = self.file.structure
+        structure = self.file.header.structure
         if not structure:
             return 0
         if not self.segments:
-            return structure.columns * structure.lines
+            return structure.area
         one = self.segments[0]
         return (one.columns or structure.columns) * (one.lines or structure.lines * one.total)
 
@@ -131,6 +126,11 @@ class Group:
     def numbers(self) -> list[int]:
         """The numbers of its files on the shelf."""
         return [part.head.number for part in self.parts]
+
+    @property
+    def rank(self) -> tuple[bool, str, int]:
+        """By which the latest of several is taken: that which lacks nothing, and then the newest one."""
+        return not self.missing, self.file.header.stamped("%Y%m%dT%H%M%S%f"), self.file.number
 
     @property
     def missing(self) -> list[int]:
@@ -182,7 +182,7 @@ def groups_of(shelf: Shelf, heads: Iterable[Head]) -> Iterator[Group | Head]:
             groups.append(head)
             continue
         segment = segment_of(file)
-        part = Part(head, shelf.mark(head), segment, file.header.mended if file.header else None)
+        part = Part(head, shelf.mark(head), segment, file.header.mended)
         group = opened.get(segment.key) if segment else None
         if not group or not group.add(part):
             group = Group(shortened(file), texts.name_of(file), [part])
@@ -194,6 +194,6 @@ def groups_of(shelf: Shelf, heads: Iterable[Head]) -> Iterator[Group | Head]:
 
 def shortened(file: StoredFile) -> StoredFile:
     """The file without the pixels of an image, of which many are kept."""
-    if not file.header or not file.header.is_image:
+    if not file.header.is_image:
         return file
     return StoredFile(file.head, file.fields, file.counter, file.proper[: file.header.size], b"")

@@ -5,16 +5,13 @@ reads a gate before its item sees whole items. Bytes are read in ascending order
 was asked for before a gate.
 """
 
-from __future__ import annotations
-
 import binascii
-import datetime
 import os
 import struct
-from collections.abc import Iterable, Iterator
+from collections.abc import Callable, Iterable, Iterator
 from dataclasses import dataclass
 from functools import cached_property
-from typing import NamedTuple
+from typing import NamedTuple, Self
 
 from . import xrit
 
@@ -105,26 +102,13 @@ class StoredFile:
         return self.head.number
 
     @cached_property
-    def header(self) -> xrit.Header | None:
+    def header(self) -> xrit.Header:
         return xrit.header_of(self.proper)
-
-    @property
-    def structure(self) -> xrit.Structure | None:
-        return self.header.structure if self.header else None
-
-    @property
-    def stamp(self) -> datetime.datetime | None:
-        return self.header.stamp if self.header else None
-
-    @property
-    def is_open_image(self) -> bool:
-        """Whether it is an image that isn't encrypted, with a record of its structure."""
-        return bool(self.header and self.structure and self.header.is_image and not self.header.is_encrypted)
 
     @property
     def data(self) -> bytes:
         """What comes after the header; nothing where that has a fault."""
-        return self.proper[self.header.size :] if self.header else b""
+        return self.proper[self.header.size :]
 
 
 def fields_of(item: bytes) -> Fields:
@@ -160,6 +144,22 @@ def sound(heads: Iterable[Head]) -> Iterator[Head]:
         return
 
 
+class Pieces:
+    """Bytes that are read in pieces, for many short looks in ascending order."""
+
+    def __init__(self, read_on: Callable[[int, int], bytes]):
+        self.read_on = read_on
+        self.start = 0
+        self.data = b""
+
+    def read(self, place: int, count: int) -> bytes:
+        at = place - self.start
+        if at < 0 or at + count > len(self.data):
+            self.data = self.read_on(place, max(count, PIECE_BYTES))
+            self.start, at = place, 0
+        return self.data[at : at + count]
+
+
 class Shelf:
     """A shelf that is open for reading."""
 
@@ -173,7 +173,7 @@ class Shelf:
             self.close()
             raise
 
-    def __enter__(self) -> Shelf:
+    def __enter__(self) -> Self:
         return self
 
     def __exit__(self, *_: object) -> None:
@@ -204,7 +204,7 @@ class Shelf:
 
     def heads(self, gate: int = FIRST_GATE, number: int = 0) -> Iterator[Head]:
         """The heads of the items from a gate on, where the next file has this number."""
-        pieces = Pieces(self)
+        pieces = Pieces(self.read)
         while True:
             head = self.head_at(pieces, gate, number)
             if head is None:
@@ -233,7 +233,7 @@ class Shelf:
 
     def fronts(self, gate: int = FIRST_GATE, number: int = 0, gone: Iterable[int] = ()) -> Iterator[Front]:
         """The fronts of the files from a gate on, without these numbers, up to where the items break off."""
-        pieces, left_out = Pieces(self), frozenset(gone)
+        pieces, left_out = Pieces(self.read), frozenset(gone)
         for head in sound(self.heads(gate, number)):
             if not head.is_discard and head.number not in left_out:
                 yield self.front(head, pieces)
@@ -276,22 +276,6 @@ class Shelf:
         if not file:
             raise ShelfError(f"file {number} isn't there, is discarded, or has a bad checksum")
         return file
-
-
-class Pieces:
-    """A shelf's bytes, read in pieces, for many short looks in ascending order."""
-
-    def __init__(self, shelf: Shelf):
-        self.shelf = shelf
-        self.start = 0
-        self.data = b""
-
-    def read(self, place: int, count: int) -> bytes:
-        at = place - self.start
-        if at < 0 or at + count > len(self.data):
-            self.data = self.shelf.read(place, max(count, PIECE_BYTES))
-            self.start, at = place, 0
-        return self.data[at : at + count]
 
 
 def discard_head(data: bytes, gate: int) -> Head | None:

@@ -1,10 +1,12 @@
-"""Whether a station is well: its shelves, its disk and its quality; old shelves that go; and what is told of a
-trouble."""
+"""Prints a line for each folder of shelves. These are troubles: no file for --minutes, more than --lost per cent of the
+last minute's frames lost, no frame restored, no word of the quality for 5 minutes, and the disk or the newest shelf
+full by more than --full per cent. The quality is that of station.sh, in FOLDER/quality; where that isn't there nothing
+is said of it. Shelves that another process has locked stay, and so does the newest one. Status 0: all is well. 1: there
+is a trouble; with --once only where one is new, and once a day.
+"""
 
-from __future__ import annotations
-
+import contextlib
 import fcntl
-import json
 import os
 import re
 import stat
@@ -157,20 +159,17 @@ def look_at_quality(state: State, bounds: Bounds, metrics: Metrics) -> None:
 # ---- old shelves
 
 
-def is_of_this_week(found: Found) -> bool:
-    """By the week or the day in its name, or by its time."""
-    now = time.gmtime()
-    week = time.strftime("%G-%V", now)
+def weeks_of(found: Found) -> Iterator[str]:
+    """The weeks of a shelf: that of its last change, and those that its name may say, by a week or by a day."""
+    yield week_of(time.gmtime(found.changed))
     label = shelves.label_of(found.path)
-    if re.match(rf"{week}(-|$)", label):
-        return True
-    try:
-        day = time.strptime(label[:10], "%Y-%m-%d")
-        if time.strftime("%G-%V", day) == week:
-            return True
-    except ValueError:
-        pass
-    return time.strftime("%G-%V", time.gmtime(found.changed)) == week
+    yield label[:7]
+    with contextlib.suppress(ValueError):
+        yield week_of(time.strptime(label[:10], "%Y-%m-%d"))
+
+
+def week_of(when: time.struct_time) -> str:
+    return time.strftime("%G-%V", when)
 
 
 def removed(found: Found) -> bool:
@@ -193,12 +192,11 @@ def removed(found: Found) -> bool:
 def remove_old(state: State, bounds: Bounds) -> None:
     """Removes shelves by their age, and then the oldest ones until enough of the disk is free; never the newest one,
     nor one that is in use."""
-    count = 0
-    found = found_in(state.folder)[:-1]
-    for it in found:
+    count, this_week = 0, week_of(time.gmtime())
+    for it in found_in(state.folder)[:-1]:
         is_old = bounds.remove_days is not None and time.time() - it.changed > bounds.remove_days * DAY_SECONDS
         is_needed = bounds.keep_free is not None and 100 - used_percent(state.folder) < bounds.keep_free
-        if (is_needed or (is_old and not is_of_this_week(it))) and removed(it):
+        if (is_needed or (is_old and this_week not in weeks_of(it))) and removed(it):
             count += 1
     if count:
         state.facts.append(f"{count} old shelves removed")
@@ -212,27 +210,21 @@ class Memory:
 
     def __init__(self, folder: str):
         self.path = os.path.join(folder, STATE, "state.json")
-        kept = self.read()
-        try:
-            self.totals = Totals(kept.get("totals", {}))
-            self.told = {str(kind) for kind in kept.get("told", [])}
-            self.told_at = float(kept.get("told_at", 0))
-        except (TypeError, ValueError, AttributeError):
-            program.tell(f"{self.path} can't be read, so it begins anew")
-            self.totals, self.told, self.told_at = Totals({}), set(), 0.0
+        if not folders.read_kept(self.path, self.take):
+            if os.path.exists(self.path):
+                program.tell(f"{self.path} can't be read, so it begins anew")
+            self.take({})
 
-    def read(self) -> dict[str, Any]:
-        try:
-            with open(self.path, encoding="utf-8") as it:
-                kept = json.load(it)
-            return kept if isinstance(kept, dict) else {}
-        except (OSError, ValueError):
-            return {}
+    def take(self, kept: dict[str, Any]) -> bool:
+        self.totals = Totals(kept.get("totals", {}))
+        self.told = {str(kind) for kind in kept.get("told", [])}
+        self.told_at = float(kept.get("told_at", 0))
+        return True
 
     def write(self) -> None:
-        kept = {"totals": self.totals.kept(), "told": sorted(self.told), "told_at": self.told_at}
-        os.makedirs(os.path.dirname(self.path), exist_ok=True)
-        folders.write_whole(self.path, json.dumps(kept).encode())
+        folders.write_kept(
+            self.path, {"totals": self.totals.kept(), "told": sorted(self.told), "told_at": self.told_at}
+        )
 
     def is_news(self, state: State) -> bool:
         """Whether a trouble is to be told: one that is new, or after a day."""

@@ -1,7 +1,5 @@
 """What is inside files that are no images: texts, zips, pictures as they were sent; and the headings of bulletins."""
 
-from __future__ import annotations
-
 import io
 import itertools
 import re
@@ -10,7 +8,7 @@ import unicodedata
 import zipfile
 from typing import NamedTuple
 
-from . import folder, xrit
+from . import folder
 from .shelf import StoredFile
 
 MOST_ZIP_FILES = 256
@@ -63,8 +61,7 @@ def readable(data: bytes) -> str:
 
 def name_of(file: StoredFile) -> str:
     """The annotation of a file as text."""
-    name = readable(file.header.annotation).strip() if file.header else ""
-    return name or f"file {file.number}"
+    return readable(file.header.annotation).strip() or f"file {file.number}"
 
 
 def ending_of(data: bytes) -> str | None:
@@ -80,10 +77,6 @@ def opened(data: bytes, is_declared_text: bool = False) -> tuple[str, bytes]:
     if is_text(data) or (is_declared_text and b"\0" not in data):
         return TEXT_ENDING, readable(data).encode("utf-8")
     return BINARY_ENDING, data
-
-
-def is_declared_text(header: xrit.Header) -> bool:
-    return header.file_type in (xrit.GTS_TYPE, xrit.TEXT_TYPE)
 
 
 def heading_of(text: str) -> Heading | None:
@@ -156,12 +149,10 @@ def unused(name: str, names: dict[str, bytes]) -> str:
 def inside(file: StoredFile) -> dict[str, bytes]:
     """What is in a file that is no image, by names with endings: itself, or the files of a zip. Nothing where it can't
     be opened."""
-    header = file.header
-    if not header or header.is_encrypted:
+    if not file.header.is_open:
         return {}
     if not file.data.startswith(ZIP_SIGNATURE):
-        ending, data = opened(file.data, is_declared_text(header))
-        return {ending: data}
+        return dict([opened(file.data, file.header.is_declared_text)])
     try:
         return unzipped(file.data)
     except BadZip:

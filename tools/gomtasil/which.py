@@ -1,7 +1,7 @@
-"""Which line code a recording has: the four are tried over its first 4,000,000 bytes, and where none locks over as many
-from its middle. Where none does, what the file looks like instead, and the line that leads it to soft symbols."""
-
-from __future__ import annotations
+"""Tries the four line codes over the first 4,000,000 bytes of a recording, and where none locks over as many from its
+middle. The last line has the options to give to `receive`. Where it has another form, what it looks like is told, and a
+line that leads it to soft symbols. Status 0: one locks. 1: none does.
+"""
 
 import collections
 import itertools
