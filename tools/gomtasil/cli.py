@@ -35,13 +35,8 @@ SHELF_OR_FOLDER = "a shelf's file, or a folder: then each NAME.shelf in it"
 
 Value = TypeVar("Value")
 Words = argparse.Namespace
-
-
-class Form(argparse.RawDescriptionHelpFormatter):
-    """A help of 100 columns, wherever it is printed."""
-
-    def __init__(self, prog: str):
-        super().__init__(prog, max_help_position=30, width=100)
+# (a help has 100 columns wherever it is printed)
+Form = functools.partial(argparse.RawDescriptionHelpFormatter, max_help_position=30, width=100)
 
 
 class Parser(argparse.ArgumentParser):
@@ -109,7 +104,6 @@ def taken(words: Words, state: str, product_of: follow.ProductOf) -> int:
 
 def do_pictures(words: Words) -> int:
     images.pillow()
-    program.end_by_signals()
     wishes = pictures.Wishes(tuple(words.only), tuple(words.enhance), words.false_colour, not words.no_latest)
     return pictures.draw(words.shelf, words.folder, wishes)
 
@@ -120,7 +114,6 @@ def do_page(words: Words) -> int:
     wishes = page.Wishes(words.newest, words.log, words.rate, words.every)
     write = functools.partial(page.write_page, words.shelf, words.folder, wishes)
     if words.serve is None:
-        program.end_by_signals()
         write()
         return 0
     program.hold_signals()
@@ -130,12 +123,12 @@ def do_page(words: Words) -> int:
 
 def written(file: str, make: Callable[..., bytes], *words: object) -> int:
     """Writes what is made of these words into a file."""
-    program.end_by_signals()
     write_whole(file, make(*words))
     return 0
 
 
 def do_geo(words: Words) -> int:
+    images.pillow()
     return written(words.file, geo.geo, words.shelf, words.n, words.alone)
 
 
@@ -152,23 +145,19 @@ def do_which(words: Words) -> int:
     if not os.path.isfile(words.recording):
         program.tell(f"{words.recording} is no file")
         return 2
-    program.end_by_signals()
     return which.which(words.recording)
 
 
 def do_state(words: Words) -> int:
-    program.end_by_signals()
     bounds = station.Bounds(words.minutes, words.lost, words.full, words.remove, words.keep_free)
     return station.watch(words.folder, bounds, words.prometheus, words.once)
 
 
 def do_quality(words: Words) -> int:
-    program.end_by_signals()
     return quality.quality(words.rate, words.keep, words.pause)
 
 
 def do_sample(words: Words) -> int:
-    program.end_by_signals()
     for frame in sample.downlink(words.minutes):
         sys.stdout.buffer.write(frame)
     return 0
@@ -322,6 +311,7 @@ def add_streams(command: Command) -> None:
 
 def main() -> int:
     words = parser().parse_args()
+    program.end_by_signals()
     try:
         return int(words.do(words))
     except BrokenPipeError:

@@ -7,8 +7,6 @@ bits, or 16 where they have more.
 
 import math
 import re
-import struct
-import zlib
 from typing import NamedTuple
 
 from . import images, segments, xrit
@@ -23,15 +21,8 @@ DISTANCE = HEIGHT + EQUATOR_RADIUS  # of the satellite from the centre
 FLATNESS = (POLE_RADIUS / EQUATOR_RADIUS) ** 2
 FACTOR_ONE = 65536  # a factor of this size is one pixel a degree
 
-# ---- TIFF and GeoTIFF
-HEAD = struct.Struct(">2sHI")
-ENTRY = struct.Struct(">HHI4s")
-SHORT, LONG, ASCII, DOUBLE = 3, 4, 2, 12
-FORMATS = {SHORT: "H", LONG: "I", DOUBLE: "d"}
-WIDTH, LENGTH, BITS, COMPRESSION, PHOTOMETRIC = 256, 257, 258, 259, 262
-STRIPS, SAMPLES, ROWS, COUNTS = 273, 277, 278, 279
+# ---- the tags of GeoTIFF, and what their keys say
 PIXEL_SCALE, TIE_POINT, GEO_KEYS, GEO_TEXTS = 33550, 33922, 34735, 34737
-DEFLATE, BLACK_IS_ZERO = 8, 1
 MODEL_TYPE, RASTER_TYPE, PROJECTED_CITATION, LINEAR_UNIT = 1024, 1025, 3073, 3076
 USER_DEFINED, PIXEL_IS_AREA, METRE = 32767, 1, 9001
 
@@ -153,56 +144,23 @@ def projection_of(longitude: float) -> str:
     )
 
 
-def geo_keys(text: str) -> tuple[list[int], str]:
-    """The directory of keys, and the texts that it names."""
+def tiff_of(picture: Picture, placement: Placement) -> bytes:
+    """The bytes of a GeoTIFF."""
+    from PIL import TiffImagePlugin
+
+    text = projection_of(placement.longitude) + "|"
     keys = [
         (MODEL_TYPE, 0, 1, USER_DEFINED),
         (RASTER_TYPE, 0, 1, PIXEL_IS_AREA),
-        (PROJECTED_CITATION, GEO_TEXTS, len(text) + 1, 0),
+        (PROJECTED_CITATION, GEO_TEXTS, len(text), 0),
         (LINEAR_UNIT, 0, 1, METRE),
     ]
-    return [1, 1, 0, len(keys)] + [number for key in keys for number in key], text + "|"
-
-
-def tiff_of(picture: Picture, placement: Placement) -> bytes:
-    """The bytes of a GeoTIFF of one strip, most significant byte first."""
-    keys, texts = geo_keys(projection_of(placement.longitude))
-    strip = zlib.compress(picture.pixels)
-    fields: list[tuple[int, int, list[int] | list[float] | str]] = [
-        (WIDTH, LONG, [picture.columns]),
-        (LENGTH, LONG, [picture.lines]),
-        (BITS, SHORT, [images.BYTE_BITS * picture.width]),
-        (COMPRESSION, SHORT, [DEFLATE]),
-        (PHOTOMETRIC, SHORT, [BLACK_IS_ZERO]),
-        (STRIPS, LONG, [HEAD.size]),
-        (SAMPLES, SHORT, [1]),
-        (ROWS, LONG, [picture.lines]),
-        (COUNTS, LONG, [len(strip)]),
-        (PIXEL_SCALE, DOUBLE, [placement.column_metres, placement.line_metres, 0.0]),
-        (TIE_POINT, DOUBLE, [0.0, 0.0, 0.0, placement.left, placement.top, 0.0]),
-        (GEO_KEYS, SHORT, keys),
-        (GEO_TEXTS, ASCII, texts),
-    ]
-    data = strip + bytes(-len(strip) % 2)
-    return HEAD.pack(b"MM", 42, HEAD.size + len(data)) + data + directory_of(fields, HEAD.size + len(data))
-
-
-def directory_of(fields: list[tuple[int, int, list[int] | list[float] | str]], at: int) -> bytes:
-    """The directory of a TIFF that stands at a place, with the values that don't fit into it after it."""
-    after = at + 2 + ENTRY.size * len(fields) + 4
-    entries, values = b"", b""
-    for tag, kind, numbers in fields:
-        if isinstance(numbers, str):
-            count, value = len(numbers) + 1, numbers.encode("ascii") + b"\0"
-        else:
-            count, value = len(numbers), struct.pack(f">{len(numbers)}{FORMATS[kind]}", *numbers)
-        if len(value) > 4:
-            place = struct.pack(">I", after + len(values))
-            values += value + bytes(len(value) % 2)
-        else:
-            place = value.ljust(4, b"\0")
-        entries += ENTRY.pack(tag, kind, count, place)
-    return struct.pack(">H", len(fields)) + entries + bytes(4) + values
+    tags = TiffImagePlugin.ImageFileDirectory_v2()
+    tags[PIXEL_SCALE] = placement.column_metres, placement.line_metres, 0.0
+    tags[TIE_POINT] = 0.0, 0.0, 0.0, placement.left, placement.top, 0.0
+    tags[GEO_KEYS] = 1, 1, 0, len(keys), *(number for key in keys for number in key)
+    tags[GEO_TEXTS] = text
+    return images.written(images.plain_image(picture), "TIFF", compression="tiff_adobe_deflate", tiffinfo=tags)
 
 
 def geo(path: str, number: int, is_alone: bool = False) -> bytes:

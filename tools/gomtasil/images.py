@@ -251,19 +251,26 @@ def lay(canvas: bytearray, columns: int, picture: Picture, left: int, top: int) 
 # ---- pictures as files
 
 
-def image_of(picture: Picture) -> Image:
-    """Pillow's image of a picture, with 8 or 16 bits a pixel: 0 stays, and the greatest value becomes the greatest
-    one."""
+def plain_image(picture: Picture) -> Image:
+    """Pillow's image of a picture, with 8 or 16 bits a pixel, whose values stay as they are."""
     from PIL import Image
 
-    size, most = (picture.columns, picture.lines), 2**picture.bits - 1
+    size = (picture.columns, picture.lines)
     if picture.width == 1:
-        image = Image.frombytes("L", size, picture.pixels)
-        return image if picture.bits == BYTE_BITS else image.point([min(it, most) * 255 // most for it in range(256)])
+        return Image.frombytes("L", size, picture.pixels)
     words = array.array("H", picture.pixels)
     words.byteswap()  # (that mode has the least significant byte first)
-    image, scale = Image.frombytes("I;16", size, words.tobytes()), 65535 / most
-    return image if picture.bits == WORD_BITS else image.point(lambda it: it * scale + ROUNDING)
+    return Image.frombytes("I;16", size, words.tobytes())
+
+
+def image_of(picture: Picture) -> Image:
+    """The same with all levels: 0 stays, and the greatest value becomes the greatest one."""
+    image, most = plain_image(picture), 2**picture.bits - 1
+    if picture.bits in (BYTE_BITS, WORD_BITS):
+        return image
+    if picture.width == 1:
+        return image.point([min(it, most) * 255 // most for it in range(256)])
+    return image.point(lambda it: it * (65535 / most) + ROUNDING)
 
 
 def grey_of(picture: Picture) -> Image:

@@ -4,8 +4,10 @@ segments, a bulletin, another one in a zip, and fill between. Nothing of it come
 
 # Coasts are a few hundred corners, and the clouds are sums of waves.
 
+import collections
 import datetime
 import io
+import itertools
 import math
 import struct
 import zipfile
@@ -131,11 +133,9 @@ class Ground:
         y, x = (latitude + 90) * self.STEPS, (longitude + 180) * self.STEPS
         line, column = int(y), int(x)
         y, x = y - line, x - column
-        low, high = self.rows[line], self.rows[min(line + 1, len(self.rows) - 1)]
-        next_column = min(column + 1, len(low) - 1)
-        return (low[column] * (1 - x) + low[next_column] * x) * (1 - y) + (
-            high[column] * (1 - x) + high[next_column] * x
-        ) * y
+        next_line, next_column = min(line + 1, len(self.rows) - 1), min(column + 1, len(self.rows[line]) - 1)
+        low, high = (row[column] * (1 - x) + row[next_column] * x for row in (self.rows[line], self.rows[next_line]))
+        return low * (1 - y) + high * y
 
 
 def clouds_at(latitude: float, longitude: float) -> float:
@@ -166,10 +166,8 @@ def place_of(column: int, line: int) -> Corner | None:
 def light_at(latitude: float, longitude: float) -> float:
     """The cosine of the sun's height above a place; 0 at night."""
     sun_latitude, sun_longitude = map(math.radians, SUN)
-    height = math.sin(latitude) * math.sin(sun_latitude) + math.cos(latitude) * math.cos(sun_latitude) * math.cos(
-        longitude - sun_longitude
-    )
-    return max(0.0, height)
+    along = math.cos(latitude) * math.cos(sun_latitude) * math.cos(longitude - sun_longitude)
+    return max(0.0, math.sin(latitude) * math.sin(sun_latitude) + along)
 
 
 def grey_at(place: Corner | None, land: Ground, ice: Ground) -> int:
@@ -243,9 +241,7 @@ def framed(text: str) -> bytes:
 def zip_of(name: str, data: bytes) -> bytes:
     out = io.BytesIO()
     with zipfile.ZipFile(out, "w", zipfile.ZIP_DEFLATED) as archive:
-        archive.writestr(
-            zipfile.ZipInfo(name, (WHEN.year, WHEN.month, WHEN.day, WHEN.hour, WHEN.minute, WHEN.second)), data
-        )
+        archive.writestr(zipfile.ZipInfo(name, WHEN.timetuple()[:6]), data)
     return out.getvalue()
 
 
@@ -262,16 +258,11 @@ class Sender:
 
     def __init__(self) -> None:
         self.files = 0
-        self.counts: dict[tuple[int, ...], int] = {}
-        self.counters: dict[tuple[int, ...], int] = {}
-
-    def next_of(self, counters: dict[tuple[int, ...], int], key: tuple[int, ...], modulus: int) -> int:
-        number = counters.get(key, 0)
-        counters[key] = (number + 1) % modulus
-        return number
+        self.counts: dict[tuple[int, int], Iterator[int]] = collections.defaultdict(itertools.count)
+        self.counters: dict[int, Iterator[int]] = collections.defaultdict(itertools.count)
 
     def packet(self, channel: int, application: int, flags: int, body: bytes) -> bytes:
-        count = self.next_of(self.counts, (channel, application), COUNT_MODULUS)
+        count = next(self.counts[channel, application]) % COUNT_MODULUS
         data = body + checksum(body).to_bytes(2, "big")
         return PACKET_HEAD.pack(application, flags << 14 | count, len(data) - 1) + data
 
@@ -284,7 +275,7 @@ class Sender:
             yield self.packet(channel, application, flags, body)
 
     def frame(self, channel: int, pointer: int, zone: bytes) -> bytes:
-        counter = self.next_of(self.counters, (channel,), COUNTER_MODULUS)
+        counter = next(self.counters[channel]) % COUNTER_MODULUS
         head = (1 << 14 | SPACECRAFT << 6 | channel).to_bytes(2, "big") + counter.to_bytes(3, "big") + b"\0"
         return head + pointer.to_bytes(2, "big") + zone
 
@@ -298,9 +289,8 @@ class Sender:
         if left:
             left += ZONE_BYTES if left <= PACKET_HEAD.size else 0
             starts.append(len(stream))
-            stream += PACKET_HEAD.pack(IDLE_APPLICATION, ONLY << 14, left - PACKET_HEAD.size - 1) + bytes(
-                left - PACKET_HEAD.size
-            )
+            idle = left - PACKET_HEAD.size
+            stream += PACKET_HEAD.pack(IDLE_APPLICATION, ONLY << 14, idle - 1) + bytes(idle)
         for first in range(0, len(stream), ZONE_BYTES):
             pointer = next((start - first for start in starts if first <= start < first + ZONE_BYTES), NO_START)
             yield self.frame(channel, pointer, stream[first : first + ZONE_BYTES])
