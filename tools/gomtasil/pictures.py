@@ -70,7 +70,6 @@ class Drawer:
         self.wishes = wishes
         self.label = folders.safe(shelves.label_of(shelf.path))[:MOST_SHELF_CHARACTERS]
         self.failed = False
-        self.newest: dict[str, str] = {}  # the pictures of each kind that came last
 
     def full(self, name: str) -> str:
         return os.path.join(self.folder, name)

@@ -36,16 +36,13 @@ def segment_of(file: StoredFile) -> Segment | None:
     found, structure = file.header.first(xrit.SEGMENT_KIND), file.header.structure
     if not found or not structure or not file.header.is_image:
         return None
-    whose = (file.fields.channel, file.fields.application)
+    key: tuple[object, ...] = (file.fields.channel, file.fields.application)
     if len(found) == NOAA.size:
         image, number, left, top, count, columns, lines = NOAA.unpack(found)
-        return (
-            Segment((*whose, image, count, columns, lines), number, count, left, top, columns, lines) if count else None
-        )
-    band = 0
+        key += image, count, columns, lines
+        return Segment(key, number, count, left, top, columns, lines) if count else None
     if len(found) == NUMBERED.size:
-        number, last, _ = NUMBERED.unpack(found)
-        first = 1
+        (number, last, _), first, band = NUMBERED.unpack(found), 1, 0
     elif len(found) == PLANNED.size:
         _, band, number, first, last, _ = PLANNED.unpack(found)
     else:
@@ -53,8 +50,7 @@ def segment_of(file: StoredFile) -> Segment | None:
     count = last - first + 1
     if not first <= number <= last or count > MOST_SEGMENTS or structure.area * count > MOST_PIXELS:
         return None
-    name = unnumbered(texts.name_of(file), number)
-    key = (*whose, structure.bits, structure.columns, count, band, name)
+    key += structure.bits, structure.columns, count, band, unnumbered(texts.name_of(file), number)
     return Segment(key, number - first, count, 0, None, None, None, first)
 
 
@@ -159,15 +155,12 @@ class Group:
     def add(self, part: Part) -> bool:
         """Takes a file. False where it belongs to another picture, as this one has its number already. A segment that
         is whole takes the place of a mended one."""
-        old = next(
-            (it for it in self.parts if it.segment and part.segment and it.segment.number == part.segment.number), None
-        )
-        if old is None:
-            self.parts.append(part)
-        elif old.mended and not part.mended:
-            self.parts[self.parts.index(old)] = part
-        elif not (part.mended and not old.mended):
-            return False
+        for place, old in enumerate(self.parts):
+            if old.segment and part.segment and old.segment.number == part.segment.number:
+                if old.mended and not part.mended:
+                    self.parts[place] = part
+                return bool(old.mended) != bool(part.mended)
+        self.parts.append(part)
         return True
 
 
