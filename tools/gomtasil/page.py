@@ -6,12 +6,11 @@ The page needs no network and no script, and loads itself anew. Pictures that it
 # Jinja2 writes the page, with every text quoted; page.html is its form.
 
 import collections
-import datetime
 import hashlib
 import os
 import re
 import time
-from collections.abc import Iterable, Iterator
+from collections.abc import Callable, Iterable, Iterator
 from dataclasses import dataclass, field
 from typing import Any, NamedTuple, Self
 
@@ -20,7 +19,7 @@ from . import images, products, program, quality, segments, station, texts, xrit
 from . import shelf as shelves
 from .quality import FRAME_SYMBOLS
 from .segments import Group
-from .shelf import Front, Head, Pieces, Shelf, StoredFile
+from .shelf import Fields, Front, Head, Pieces, Shelf, StoredFile
 
 NEWEST = 200  # images that are shown, and as many other files
 EACH = 32  # of each application that are shown whatever else came
@@ -53,34 +52,36 @@ class Place(NamedTuple):
 
 
 class Steps:
-    """The steps of the file counter from file to file. Senders count over all files or within some; most steps by one
-    tell which."""
+    """The steps of the file counter from file to file, where a sender counts within something."""
 
-    WHICH = ("over all files", "within each channel", "within each application")
-
-    def __init__(self) -> None:
+    def __init__(self, within: str, key_of: Callable[[Fields], tuple[int, ...]]):
+        self.within, self.key_of = within, key_of
         self.before: dict[tuple[int, ...], int] = {}
-        self.ones = {name: 0 for name in self.WHICH}
-        self.all = {name: 0 for name in self.WHICH}
-        self.missing = {name: 0 for name in self.WHICH}
+        self.all = self.ones = self.missing = 0
 
     def add(self, front: Front) -> None:
-        channel, application, counter = front.fields.channel, front.fields.application, front.counter
-        for name, key in zip(self.WHICH, ((), (channel,), (channel, application))):
-            step = (counter - self.before.get(key, counter)) % COUNTER_MODULUS
-            if step == 1:
-                self.ones[name] += 1
-            elif 1 < step <= MOST_GAP:
-                self.missing[name] += step - 1
-            self.all[name] += key in self.before
-            self.before[key] = counter
+        key = self.key_of(front.fields)
+        step = (front.counter - self.before.get(key, front.counter)) % COUNTER_MODULUS
+        self.all += key in self.before
+        self.ones += step == 1
+        self.missing += step - 1 if 1 < step <= MOST_GAP else 0
+        self.before[key] = front.counter
 
-    @property
-    def words(self) -> str:
-        name = max(self.WHICH, key=lambda it: self.ones[it] / max(1, self.all[it]))
-        if 2 * self.ones[name] <= self.all[name]:
-            return "File counters don't tell whether files are missing."
-        return f"Missing by the file counters, which count {name}: {self.missing[name]}."
+
+def all_steps() -> list[Steps]:
+    """Senders count over all files or within some; most steps by one tell which."""
+    return [
+        Steps("over all files", lambda it: ()),
+        Steps("within each channel", lambda it: (it.channel,)),
+        Steps("within each application", lambda it: (it.channel, it.application)),
+    ]
+
+
+def gaps_of(steps: list[Steps]) -> str:
+    it = max(steps, key=lambda it: it.ones / max(1, it.all))
+    if 2 * it.ones <= it.all:
+        return "File counters don't tell whether files are missing."
+    return f"Missing by the file counters, which count {it.within}: {it.missing}."
 
 
 class Stretches:
@@ -160,7 +161,7 @@ class Walk:
 
     def __init__(self, newest: int):
         self.found = Summary()
-        self.steps, self.stretches = Steps(), Stretches()
+        self.steps, self.stretches = all_steps(), Stretches()
         self.images, self.others = Newest(newest), Newest(newest)
         self.before = self.latest = 0
 
@@ -180,12 +181,13 @@ class Walk:
         row[1] += front.head.extent
         found.lasts[key] = place
         (self.images if front.file_type == xrit.IMAGE_TYPE else self.others).add(key, place)
-        self.steps.add(front)
+        for it in self.steps:
+            it.add(front)
         found.files += 1
 
     def end(self) -> Summary:
         found = self.found
-        found.last_frame, found.gaps = self.before + self.latest, self.steps.words
+        found.last_frame, found.gaps = self.before + self.latest, gaps_of(self.steps)
         found.points, found.images, found.others = self.stretches.points, self.images.places, self.others.places
         return found
 
@@ -221,6 +223,14 @@ def kept_summary(shelf: Shelf, state: str, newest: int) -> Summary:
 # ---- what is shown
 
 
+def utc(seconds: float, form: str = "%Y-%m-%d %H:%M") -> str:
+    """A time in UTC; nothing where there is no such time."""
+    try:
+        return time.strftime(form, time.gmtime(seconds))
+    except (OverflowError, ValueError, OSError):
+        return ""
+
+
 @dataclass
 class Shown:
     """A file or several segments, as the page shows them."""
@@ -253,7 +263,7 @@ class Source(NamedTuple):
         if not self.rate or place.reception != self.summary.receptions:
             return ""
         seconds = (self.summary.last_frame - place.frame) * FRAME_SYMBOLS / self.rate
-        return time.strftime("%Y-%m-%d %H:%M", time.gmtime(self.changed - seconds))
+        return utc(self.changed - seconds)
 
 
 class Pictures:
@@ -422,11 +432,7 @@ class Curve(NamedTuple):
 
 def clocks(begin: float, end: float) -> list[str]:
     """Hours and minutes at five places of the same distances."""
-    return [clock(begin + (end - begin) * place / 4) for place in range(5)]
-
-
-def clock(seconds: float) -> str:
-    return time.strftime("%H:%M", time.gmtime(seconds))
+    return [utc(begin + (end - begin) * place / 4, "%H:%M") for place in range(5)]
 
 
 def curve_of_minutes(minutes: list[quality.Minute]) -> Curve:
@@ -441,7 +447,7 @@ def curve_of_minutes(minutes: list[quality.Minute]) -> Curve:
         if sum_.frames > sum_.lost:
             curve.points.append((key / MOST_STRETCHES, sum_.corrected / (sum_.frames - sum_.lost)))
         if sum_.lost:
-            text = f"{clock(row[0].time)} UTC: {sum_.lost} of {sum_.frames} frames lost"
+            text = f"{utc(row[0].time, '%H:%M')} UTC: {sum_.lost} of {sum_.frames} frames lost"
             curve.lost.append((key / MOST_STRETCHES, sum_.lost / sum_.frames, text))
     return curve
 
@@ -605,8 +611,8 @@ def write_page(path: str, folder: str, wishes: Wishes) -> None:
 
 
 def row_of(found: station.Found) -> dict[str, Any]:
-    changed = time.strftime("%Y-%m-%d %H:%M", time.gmtime(found.changed))
-    return {"name": os.path.basename(found.path), "size": found.size, "full": found.full, "changed": changed}
+    name = os.path.basename(found.path)
+    return {"name": name, "size": found.size, "full": found.full, "changed": utc(found.changed)}
 
 
 def forget(state: str, paths: list[str]) -> None:
@@ -630,7 +636,5 @@ def jinja() -> Any:
 
 
 def rendered(values: dict[str, Any], wishes: Wishes) -> str:
-    written = datetime.datetime.now(datetime.timezone.utc)
-    constants = {"correctable": CORRECTABLE_BYTES, "most_text": MOST_TEXT_CHARACTERS, "refresh": wishes.refresh}
-    constants["stretches"] = MOST_STRETCHES
-    return str(jinja().render(**values, **constants, written=f"{written:%Y-%m-%d %H:%M}"))
+    constants = {"correctable": CORRECTABLE_BYTES, "most_text": MOST_TEXT_CHARACTERS, "stretches": MOST_STRETCHES}
+    return str(jinja().render(**values, **constants, refresh=wishes.refresh, written=utc(time.time())))

@@ -74,7 +74,7 @@ class Fields(NamedTuple):
     channel: int
     application: int
     packets: int
-    frames: tuple[int, int] | None  # of its first and its last packet; None on a shelf of version 1
+    frames: tuple[int, int] | None  # of its first and its last packet; None on a shelf of version 1, or in disorder
     corrected: int  # bytes that were corrected in these frames
 
 
@@ -116,7 +116,7 @@ def fields_of(item: bytes) -> Fields:
     if item[0] == FILE:
         at = 1
         first, last, corrected = ORIGIN.unpack_from(item, at + FIELDS.size)
-        origin = (first, last)
+        origin = (first, last) if first <= last else None
     channel, application, packets, count = FIELDS.unpack_from(item, at)
     return Fields(count, channel, application, packets, origin, corrected)
 

@@ -189,17 +189,15 @@ def removed(found: Found) -> bool:
     return True
 
 
-def remove_old(state: State, bounds: Bounds) -> None:
+def removed_old(folder: str, bounds: Bounds) -> list[str]:
     """Removes shelves by their age, and then the oldest ones until enough of the disk is free; never the newest one,
-    nor one that is in use."""
-    count, this_week = 0, week_of(time.gmtime())
-    for it in found_in(state.folder)[:-1]:
+    nor one that is in use. What is said of it."""
+    this_week, gone = week_of(time.gmtime()), 0
+    for it in found_in(folder)[:-1]:
         is_old = bounds.remove_days is not None and time.time() - it.changed > bounds.remove_days * DAY_SECONDS
-        is_needed = bounds.keep_free is not None and 100 - used_percent(state.folder) < bounds.keep_free
-        if (is_needed or (is_old and this_week not in weeks_of(it))) and removed(it):
-            count += 1
-    if count:
-        state.facts.append(f"{count} old shelves removed")
+        is_needed = bounds.keep_free is not None and 100 - used_percent(folder) < bounds.keep_free
+        gone += (is_needed or (is_old and this_week not in weeks_of(it))) and removed(it)
+    return [f"{gone} old shelves removed"] if gone else []
 
 
 # ---- what is told
@@ -261,10 +259,7 @@ def watch(folders_: list[str], bounds: Bounds, prometheus: str | None, once: boo
     """Looks at each folder, and prints a line of it. 1 where there is a trouble; with `once` where it is news."""
     metrics, status = Metrics(), 0
     for folder in folders_:
-        state = State(folder)
-        if os.path.isdir(folder):
-            remove_old(state, bounds)
-        gone = state.facts
+        gone = removed_old(folder, bounds)
         state = look_at(folder, bounds, metrics)
         state.facts += gone
         metrics.add("trouble", int(bool(state.troubles)), folder=folder)
