@@ -6,14 +6,12 @@ of what it starts, and its peak of memory.
 Usage: tool.py [--old FOLDER] [--files N] [--runs N], with the built program as $LRITSTATION. It needs Debian's package
 time. FOLDER has the files of the scripts' commit, as `git archive 71ab5eb1 | tar x -C FOLDER` writes them; their
 pictures.sh makes PNG where netpbm is there. Of N files (100,000) one in fifty is a segment, four of which make a
-picture of 160 columns and lines; the others are bulletins. With --follow a start of `follow` on a shelf of N files that
-were all taken is timed instead.
+picture of 160 columns and lines; the others are bulletins. With --follow it is `follow` that is timed.
 """
 
 import argparse
-import hashlib
-import json
 import os
+import shutil
 import subprocess
 import sys
 import tempfile
@@ -77,32 +75,14 @@ def told(what, who, used):
     print(f"| {what} | {who} | {wall:.2f} s | {seconds:.2f} s | {peak / 1024:.0f} MB |", flush=True)
 
 
-def time_both(path, words):
-    sides = {"tool": {"page": [*TOOL, "page"], "pictures": [*TOOL, "pictures"]}}
-    if words.old:
-        old = os.path.join(words.old, "examples")
-        sides["scripts"] = {"page": [sys.executable, f"{old}/report.py"], "pictures": ["sh", f"{old}/pictures.sh"]}
-    for turn in range(words.runs):
-        for what in ("page", "pictures"):
-            for who, commands in sides.items():
-                folder = f"{who}-{what}-{turn}"
-                told(what, who, run([*commands[what], path, folder]))
-                told(f"{what}, nothing new", who, run([*commands[what], path, folder]))
-
-
-def time_follow(path, count, runs):
-    """A start on a shelf whose log says that all files were taken."""
-    os.makedirs("files/.follow")
-    gate = shelf.FIRST_GATE
-    with open("files/.follow/many.log", "w", encoding="ascii") as log:
-        log.write(json.dumps(os.path.realpath(path)) + "\n")
-        for number, item in enumerate(items(count)):
-            sum_ = hashlib.sha256(item).hexdigest()[:32]
-            log.write(f"file {number} {number + 1} {gate} {len(item)} {sum_} day/many-{number:06d}-name\n")
-            gate += 1 + len(item)
-    for _ in range(runs):
-        told(f"follow, {count} files taken", "tool", run([*TOOL, "follow", path, "files"]))
-    told(f"follow, {count} files, none wanted", "tool", run([*TOOL, "follow", path, "none", "--only", "none"]))
+def commands_of(old):
+    """The commands of the tool, and of the scripts where these are there."""
+    found = {"tool": {name: [*TOOL, name] for name in ("page", "pictures", "follow")}}
+    if old:
+        scripts = {"page": [sys.executable, "report.py"], "pictures": ["sh", "pictures.sh"]}
+        scripts["follow"] = [sys.executable, "follow.py"]
+        found["scripts"] = {name: [it[0], os.path.join(old, "examples", it[1])] for name, it in scripts.items()}
+    return found
 
 
 def main():
@@ -120,10 +100,12 @@ def main():
         print(f"{words.files} files, {len(body) / 1e6:.0f} MB, load {os.getloadavg()[0]:.1f}")
         print("| what | by | wall | processor | memory |\n|---|---|---|---|---|", flush=True)
         del body
-        if words.follow:
-            time_follow("many.shelf", words.files, words.runs)
-        else:
-            time_both("many.shelf", words)
+        for _ in range(words.runs):
+            for what in ["follow"] if words.follow else ["page", "pictures"]:
+                for who, commands in commands_of(words.old).items():
+                    told(what, who, run([*commands[what], "many.shelf", "folder"]))
+                    told(f"{what}, nothing new", who, run([*commands[what], "many.shelf", "folder"]))
+                    shutil.rmtree("folder")
     print(f"load {os.getloadavg()[0]:.1f}")
 
 
