@@ -10,7 +10,6 @@ FOLDER/discarded. What was taken is kept in FOLDER/.follow; where that is remove
 
 import os
 import subprocess
-import sys
 import time
 from collections.abc import Callable, Iterable, Iterator, Sequence
 from dataclasses import dataclass
@@ -278,9 +277,6 @@ def run(path: str, folder: folders.Folder, wishes: Wishes, does_watch: bool) -> 
         station.take_all()
         while does_watch and not program.wait(POLL_SECONDS):
             station.take_all()
-    except BrokenPipeError:
-        os.dup2(os.open(os.devnull, os.O_WRONLY), sys.stdout.fileno())
-        return 1
     finally:
         station.close()
     ended_by = program.pending_signal()

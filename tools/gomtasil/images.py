@@ -49,10 +49,6 @@ class Picture(NamedTuple):
         """The bytes of a pixel."""
         return 1 if self.bits <= BYTE_BITS else 2
 
-    def row(self, line: int) -> bytes:
-        size = self.columns * self.width
-        return self.pixels[line * size : (line + 1) * size]
-
 
 # ---- pixels of a data field
 
@@ -232,20 +228,13 @@ def joined(parts: list[tuple[segments.Segment, Picture]]) -> Picture | None:
     canvas = bytearray(columns * lines * one.width)
     for segment, it in parts:
         top = segment.number * one.lines if segment.top is None else segment.top
-        if it.bits == one.bits and segment.left + it.columns <= columns and top + it.lines <= lines:
-            lay(canvas, columns, it, segment.left, top)
+        if it.bits != one.bits or segment.left + it.columns > columns or top + it.lines > lines:
+            continue
+        size = it.columns * it.width
+        for line in range(it.lines):
+            at = ((top + line) * columns + segment.left) * it.width
+            canvas[at : at + size] = it.pixels[line * size : (line + 1) * size]
     return Picture(one.bits, columns, lines, bytes(canvas))
-
-
-def lay(canvas: bytearray, columns: int, picture: Picture, left: int, top: int) -> None:
-    """Lays a picture onto a canvas with this number of columns."""
-    if picture.columns == columns:
-        at = top * columns * picture.width
-        canvas[at : at + len(picture.pixels)] = picture.pixels
-        return
-    for line in range(picture.lines):
-        at = ((top + line) * columns + left) * picture.width
-        canvas[at : at + picture.columns * picture.width] = picture.row(line)
 
 
 # ---- pictures as files

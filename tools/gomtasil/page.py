@@ -19,7 +19,7 @@ from . import images, products, program, quality, segments, station, texts, xrit
 from . import shelf as shelves
 from .quality import FRAME_SYMBOLS
 from .segments import Group
-from .shelf import Fields, Front, Head, Pieces, Shelf, StoredFile
+from .shelf import Front, Head, Pieces, Shelf, StoredFile
 
 NEWEST = 200  # images that are shown, and as many other files
 EACH = 32  # of each application that are shown whatever else came
@@ -52,36 +52,30 @@ class Place(NamedTuple):
 
 
 class Steps:
-    """The steps of the file counter from file to file, where a sender counts within something."""
+    """The steps of the file counter from file to file. Senders count over all files or within some; most steps by one
+    tell which."""
 
-    def __init__(self, within: str, key_of: Callable[[Fields], tuple[int, ...]]):
-        self.within, self.key_of = within, key_of
+    WITHIN = ("over all files", "within each channel", "within each application")
+
+    def __init__(self) -> None:
         self.before: dict[tuple[int, ...], int] = {}
-        self.all = self.ones = self.missing = 0
+        self.all, self.ones, self.missing = (dict.fromkeys(self.WITHIN, 0) for _ in range(3))
 
     def add(self, front: Front) -> None:
-        key = self.key_of(front.fields)
-        step = (front.counter - self.before.get(key, front.counter)) % COUNTER_MODULUS
-        self.all += key in self.before
-        self.ones += step == 1
-        self.missing += step - 1 if 1 < step <= MOST_GAP else 0
-        self.before[key] = front.counter
+        channel, application, counter = front.fields.channel, front.fields.application, front.counter
+        for name, key in zip(self.WITHIN, ((), (channel,), (channel, application))):
+            step = (counter - self.before.get(key, counter)) % COUNTER_MODULUS
+            self.all[name] += key in self.before
+            self.ones[name] += step == 1
+            self.missing[name] += step - 1 if 1 < step <= MOST_GAP else 0
+            self.before[key] = counter
 
-
-def all_steps() -> list[Steps]:
-    """Senders count over all files or within some; most steps by one tell which."""
-    return [
-        Steps("over all files", lambda it: ()),
-        Steps("within each channel", lambda it: (it.channel,)),
-        Steps("within each application", lambda it: (it.channel, it.application)),
-    ]
-
-
-def gaps_of(steps: list[Steps]) -> str:
-    it = max(steps, key=lambda it: it.ones / max(1, it.all))
-    if 2 * it.ones <= it.all:
-        return "File counters don't tell whether files are missing."
-    return f"Missing by the file counters, which count {it.within}: {it.missing}."
+    @property
+    def words(self) -> str:
+        name = max(self.WITHIN, key=lambda it: self.ones[it] / max(1, self.all[it]))
+        if 2 * self.ones[name] <= self.all[name]:
+            return "File counters don't tell whether files are missing."
+        return f"Missing by the file counters, which count {name}: {self.missing[name]}."
 
 
 class Stretches:
@@ -161,7 +155,7 @@ class Walk:
 
     def __init__(self, newest: int):
         self.found = Summary()
-        self.steps, self.stretches = all_steps(), Stretches()
+        self.steps, self.stretches = Steps(), Stretches()
         self.images, self.others = Newest(newest), Newest(newest)
         self.before = self.latest = 0
 
@@ -181,13 +175,12 @@ class Walk:
         row[1] += front.head.extent
         found.lasts[key] = place
         (self.images if front.file_type == xrit.IMAGE_TYPE else self.others).add(key, place)
-        for it in self.steps:
-            it.add(front)
+        self.steps.add(front)
         found.files += 1
 
     def end(self) -> Summary:
         found = self.found
-        found.last_frame, found.gaps = self.before + self.latest, gaps_of(self.steps)
+        found.last_frame, found.gaps = self.before + self.latest, self.steps.words
         found.points, found.images, found.others = self.stretches.points, self.images.places, self.others.places
         return found
 
@@ -292,24 +285,26 @@ class Pictures:
         ending = texts.ending_of(file.data) if file else None
         if file and ending and not group.missing:
             return self.of_data(name, ending, file.data)
-        paths = (name + ".png", name + "-small.jpg")
-        if not all([self.has(it) for it in paths]):
+
+        def draw() -> tuple[bytes, Any] | None:
             picture = images.group_picture(shelf, group) if group.area <= MOST_PICTURE_PIXELS else None
-            if not picture:
-                return "", ""
-            self.write(paths[0], images.png_of(picture))
-            self.write(paths[1], images.jpeg_of(images.grey_of(picture), THUMBNAIL_PIXELS))
-        return paths
+            return (images.png_of(picture), images.grey_of(picture)) if picture else None
+
+        return self.made(name, ".png", draw)
 
     def of_data(self, name: str, ending: str, data: bytes) -> tuple[str, str]:
         """The same of a picture that is shown as it was sent."""
+        return self.made(name, ending, lambda: (data, image) if (image := images.read_image(data)) else None)
+
+    def made(self, name: str, ending: str, make: Callable[[], tuple[bytes, Any] | None]) -> tuple[str, str]:
+        """The same of the bytes and the image that are made, where they don't stand there yet."""
         paths = (name + ending, name + "-small.jpg")
         if not all([self.has(it) for it in paths]):
-            image = images.read_image(data)
-            if not image:
+            found = make()
+            if not found:
                 return "", ""
-            self.write(paths[0], data)
-            self.write(paths[1], images.jpeg_of(image, THUMBNAIL_PIXELS))
+            self.write(paths[0], found[0])
+            self.write(paths[1], images.jpeg_of(found[1], THUMBNAIL_PIXELS))
         return paths
 
     def large(self, picture: str) -> str:
@@ -493,10 +488,8 @@ def missing_lines(content: Content, source: Source | None, log: str | None, minu
     else:
         lines.append("Lost frames aren't on a shelf: --log names a file with the lines of a reception.")
     if source:
-        lines.append(source.summary.gaps)
-        lines.append(
-            f"Files discarded: {source.summary.discarded}. With a bad checksum among the newest: {content.damaged}."
-        )
+        discarded = f"Files discarded: {source.summary.discarded}"
+        lines += [source.summary.gaps, f"{discarded}. With a bad checksum among the newest: {content.damaged}."]
         if source.summary.breaks_off:
             lines.append("The shelf is damaged: its items break off.")
     return lines + content.missing
@@ -598,9 +591,9 @@ def write_page(path: str, folder: str, wishes: Wishes) -> None:
         "bulletins": content.groups(),
         "others": content.others,
         "shelves": list(map(row_of, found)),
-        "facts": [f"{first.summary.files} files on {os.path.basename(first.shelf.path)}."]
+        "shown": f"{first.summary.files} files on {os.path.basename(first.shelf.path)}"
         if first
-        else ["There is no shelf."],
+        else "There is no shelf",
     }
     if is_folder:
         values["state"] = state_of_station(path, minutes)
@@ -630,9 +623,8 @@ def jinja() -> Any:
     except ImportError:
         raise program.Missing("Jinja2 is missing: apt-get install python3-jinja2") from None
     loader = jinja2.FileSystemLoader(os.path.dirname(os.path.abspath(__file__)))
-    return jinja2.Environment(loader=loader, autoescape=True, undefined=jinja2.StrictUndefined).get_template(
-        "page.html"
-    )
+    forms = jinja2.Environment(loader=loader, autoescape=True, undefined=jinja2.StrictUndefined)
+    return forms.get_template("page.html")
 
 
 def rendered(values: dict[str, Any], wishes: Wishes) -> str:

@@ -229,15 +229,13 @@ def draw_shelf(path: str, folder: str, wishes: Wishes) -> bool:
 def draw(path: str, folder: str, wishes: Wishes) -> int:
     """Draws the images of a shelf, or of all shelves of a folder. The status."""
     os.makedirs(folder, exist_ok=True)
-    status = 0
-    paths = shelves.paths_of(path)
-    if not paths:
-        program.tell(f"{path}: there is no shelf")
-        status = 1
-    for it in paths:
+    faults = 0
+    for it in (paths := shelves.paths_of(path)):
         try:
-            status = status if draw_shelf(it, folder, wishes) else 1
+            faults += not draw_shelf(it, folder, wishes)
         except (OSError, shelves.ShelfError) as fault:
             program.tell(f"{it}: {program.reason(fault)}")
-            status = 1
-    return status
+            faults += 1
+    if not paths:
+        program.tell(f"{path}: there is no shelf")
+    return int(faults > 0 or not paths)

@@ -68,20 +68,14 @@ def name() -> str:
 def called(items: Sequence[bytes], *words: str) -> bytes | None:
     """What the program prints for these words, over a shelf in memory that has these items; None where it doesn't end
     well."""
-    descriptor = os.memfd_create("shelf")
-    try:
-        with open(descriptor, "wb", closefd=False) as it:
-            it.write(shelves.shelf_of(items))
-        done = subprocess.run(
-            [name(), f"/proc/self/fd/{descriptor}", *words],
-            stdin=subprocess.DEVNULL,
-            capture_output=True,
-            timeout=EXPORT_SECONDS,
-            check=True,
-            pass_fds=[descriptor],
-        )
-    except (OSError, subprocess.SubprocessError):
-        return None
-    finally:
-        os.close(descriptor)
-    return done.stdout
+    with open(os.memfd_create("shelf"), "wb") as it:
+        it.write(shelves.shelf_of(items))
+        it.flush()
+        command = [name(), f"/proc/self/fd/{it.fileno()}", *words]
+        try:
+            done = subprocess.run(
+                command, stdin=subprocess.DEVNULL, capture_output=True, timeout=EXPORT_SECONDS, pass_fds=[it.fileno()]
+            )
+        except (OSError, subprocess.SubprocessError):
+            return None
+    return done.stdout if done.returncode == 0 else None

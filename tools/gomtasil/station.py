@@ -78,22 +78,14 @@ class Found:
 
 def found_in(folder: str) -> list[Found]:
     """The shelves of a folder by the time of their last change, the newest one last. Other files and links are none."""
-    return sorted(looked_for(folder), key=lambda it: (it.changed, it.path))
-
-
-def looked_for(folder: str) -> Iterator[Found]:
+    found = []
     for path in shelves.paths_of(folder):
-        try:
+        with contextlib.suppress(OSError, shelves.ShelfError):
             about = os.lstat(path)
             if stat.S_ISREG(about.st_mode):
                 with Shelf(path) as shelf:
-                    yield Found(path, about.st_size, about.st_mtime, shelf.capacity)
-        except (OSError, shelves.ShelfError):
-            continue
-
-
-def minutes_since(changed: float) -> int:
-    return max(0, int(time.time() - changed) // 60)
+                    found.append(Found(path, about.st_size, about.st_mtime, shelf.capacity))
+    return sorted(found, key=lambda it: (it.changed, it.path))
 
 
 def look_at_shelves(state: State, bounds: Bounds, metrics: Metrics) -> None:
@@ -103,10 +95,10 @@ def look_at_shelves(state: State, bounds: Bounds, metrics: Metrics) -> None:
         return
     newest = found[-1]
     filled = [it for it in found if it.has_files]
-    age = minutes_since(filled[-1].changed if filled else newest.changed)
-    name = os.path.basename(newest.path)
+    seconds = max(0, int(time.time() - (filled or found)[-1].changed))
+    age, name = seconds // 60, os.path.basename(newest.path)
     if filled:
-        metrics.add("last_file_age_seconds", max(0, int(time.time() - filled[-1].changed)), folder=state.folder)
+        metrics.add("last_file_age_seconds", seconds, folder=state.folder)
     metrics.add("shelf_used_percent", newest.full, folder=state.folder, shelf=name)
     state.facts += [f"last file {age} minutes ago" if filled else "no file yet", f"{name} {newest.full} % full"]
     if age > bounds.minutes:

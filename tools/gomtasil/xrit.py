@@ -163,10 +163,8 @@ def header_of(proper: bytes) -> Header:
         return faulty
     records, at = [], PRIMARY.size
     while at < size:
-        if at + RECORD.size > size:
-            return faulty
-        kind, length = RECORD.unpack_from(proper, at)
-        if length < RECORD.size or at + length > size or FIXED_LENGTHS.get(kind, length) != length:
+        kind, length = RECORD.unpack_from(proper, at) if at + RECORD.size <= size else (0, 0)
+        if not RECORD.size <= length <= size - at or FIXED_LENGTHS.get(kind, length) != length:
             return faulty
         records.append((kind, proper[at + RECORD.size : at + length]))
         at += length
