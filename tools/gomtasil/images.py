@@ -22,10 +22,9 @@ if TYPE_CHECKING:
 
 BYTE_BITS = 8
 WORD_BITS = 16
-MOST_EXPORTED_PIXELS = 64 * 1024 * 1024  # of an image that the program is asked for
+MOST_PIXELS = 64 * 1024 * 1024  # of a picture that is drawn or read
 MOST_BATCH_BYTES = 128 * 1024 * 1024  # of files that it is asked for at once
 MOST_BATCH_PIXELS = 32 * 1024 * 1024
-MOST_READ_PIXELS = 64 * 1024 * 1024  # of a picture that Pillow reads
 READ_FORMATS = ("JPEG", "GIF", "PNG")
 ROUNDING = 1e-6  # (less than the least step of a scaled value, and more than the error of its product)
 
@@ -134,7 +133,7 @@ def read_image(data: bytes) -> Image | None:
 
     try:
         image = Image.open(io.BytesIO(data), formats=READ_FORMATS)
-        if image.width * image.height > MOST_READ_PIXELS:
+        if image.width * image.height > MOST_PIXELS:
             return None
         image.load()
         return image
@@ -150,7 +149,7 @@ def is_coded(file: StoredFile) -> bool:
     structure = file.header.structure
     if not structure or not file.header.is_open_image or texts.ending_of(file.data):
         return False
-    return structure.compression == xrit.LOSSLESS and file.header.is_lossless and structure.area <= MOST_EXPORTED_PIXELS
+    return structure.compression == xrit.LOSSLESS and file.header.is_lossless and structure.area <= MOST_PIXELS
 
 
 def picture_of(file: StoredFile) -> Picture | None:

@@ -26,7 +26,6 @@ EACH = 32  # of each application that are shown whatever else came
 MOST_SHELVES = 8  # of a folder that are looked into for them
 MOST_TEXT_CHARACTERS = 20_000  # of a bulletin that are shown
 THUMBNAIL_PIXELS, LARGE_PIXELS = 160, 1024
-MOST_PICTURE_PIXELS = 64 * 1024 * 1024
 CORRECTABLE_BYTES = 64  # of a frame: sixteen in each of its four words
 COUNTER_MODULUS = 65_536
 MOST_GAP = 1000  # file counters that may be missing in a row; a greater step is a new start
@@ -287,7 +286,7 @@ class Pictures:
             return self.of_data(name, ending, file.data)
 
         def draw() -> tuple[bytes, Any] | None:
-            picture = images.group_picture(shelf, group) if group.area <= MOST_PICTURE_PIXELS else None
+            picture = images.group_picture(shelf, group) if group.area <= images.MOST_PIXELS else None
             return (images.png_of(picture), images.grey_of(picture)) if picture else None
 
         return self.made(name, ".png", draw)
@@ -463,16 +462,15 @@ def curve_of_frames(source: Source) -> Curve | None:
 def losses_of(path: str) -> tuple[int, int]:
     """The frames and those that were lost, from the lines of minutes in a file; where it has none, from the last lines
     of `receive`."""
-    minute = re.compile(r"minute \d+ frames (\d+) lost (\d+)\b")
     last = re.compile(r"symbols \d+ frames (\d+) restored \d+ lost (\d+) packets ")
-    sums = {minute: [0, 0, 0], last: [0, 0, 0]}
+    sums = {quality.MINUTE_LINE: [0, 0, 0], last: [0, 0, 0]}
     with open(path, encoding="utf-8", errors="replace") as it:
         for line in it:
             for shape, row in sums.items():
                 match = shape.search(line)
                 if match:
                     row[:] = [row[0] + 1, row[1] + int(match[1]), row[2] + int(match[2])]
-    _, frames, lost = sums[minute] if sums[minute][0] else sums[last]
+    _, frames, lost = sums[quality.MINUTE_LINE] if sums[quality.MINUTE_LINE][0] else sums[last]
     return frames, lost
 
 

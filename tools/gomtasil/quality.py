@@ -4,6 +4,7 @@ loss is a step of a channel's counter. Where no line comes for a minute it says 
 """
 
 import os
+import re
 import select
 import time
 from collections.abc import Iterator
@@ -16,6 +17,7 @@ COUNTER_MODULUS = 1 << 24
 MOST_STEP = 100_000  # frames of a channel that may be lost in a row; a greater step is a new start of its counter
 MOST_MINUTES = 3000  # that the folder keeps; where there are more, half of them go
 MINUTES, QUALITY = "minutes", "quality"  # files of a station's folder
+MINUTE_LINE = re.compile(r"minute \d+ frames (\d+) lost (\d+)(?: corrected ([0-9.]+))?\b")  # a line that is told
 NOTHING = "no frame is restored: nothing locks"
 
 

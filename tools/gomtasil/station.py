@@ -8,7 +8,6 @@ is a trouble; with --once only where one is new, and once a day.
 import contextlib
 import fcntl
 import os
-import re
 import stat
 import time
 from collections.abc import Iterator
@@ -133,7 +132,7 @@ def look_at_quality(state: State, bounds: Bounds, metrics: Metrics) -> None:
         return
     with open(path, encoding="ascii", errors="replace") as it:
         line = it.read(1000)
-    told = re.fullmatch(r"minute \d+ frames (\d+) lost (\d+)(?: corrected ([0-9.]+))?\n", line)
+    told = quality.MINUTE_LINE.fullmatch(line.rstrip("\n"))
     frames, lost = (int(told[1]), int(told[2])) if told else (0, 0)
     if not told or frames == lost:
         metrics.add("frames", 0, folder=state.folder)
