@@ -58,11 +58,9 @@ class Parser(argparse.ArgumentParser):
 # ---- values of options
 
 
-def number(text: str, least: int = 0, most: int | None = None) -> int:
-    if not (text.isascii() and text.isdecimal()):
-        raise argparse.ArgumentTypeError(f"{text} is no number")
-    if int(text) < least or (most is not None and int(text) > most):
-        raise argparse.ArgumentTypeError(f"{text} isn't from {least} to {most}")
+def number(text: str, least: int = 0, most: int = 2**32) -> int:
+    if not (text.isascii() and text.isdecimal() and least <= int(text) <= most):
+        raise argparse.ArgumentTypeError(f"{text} is no number from {least} to {most}")
     return int(text)
 
 
@@ -317,7 +315,6 @@ def main() -> int:
     except BrokenPipeError:
         os.dup2(os.open(os.devnull, os.O_WRONLY), sys.stdout.fileno())
     except (OSError, ShelfError, program.Missing) as fault:
-        program.tell(
-            f"{fault.filename!r}: {fault.strerror}" if isinstance(fault, OSError) and fault.filename else fault
-        )
+        where = f"{fault.filename!r}: " if isinstance(fault, OSError) and fault.filename else ""
+        program.tell(where + program.reason(fault))
     return 1

@@ -37,23 +37,6 @@ class Placement(NamedTuple):
     line_offset: int
     first_line: int  # lines of the whole image before those of this one
 
-    @property
-    def column_metres(self) -> float:
-        return HEIGHT * math.radians(FACTOR_ONE / self.column_factor)
-
-    @property
-    def line_metres(self) -> float:
-        return HEIGHT * math.radians(FACTOR_ONE / self.line_factor)
-
-    @property
-    def left(self) -> float:
-        # the upper left pixel is column 1 and begins at 0.5
-        return (0.5 - self.column_offset) * self.column_metres
-
-    @property
-    def top(self) -> float:
-        return (self.line_offset - self.first_line - 0.5) * self.line_metres
-
     def pixel_of(self, longitude: float, latitude: float) -> tuple[float, float] | None:
         """The column and line, counted from 0 at the middle of the first pixel, at which a place on the ellipsoid is
         seen; None behind the limb."""
@@ -93,34 +76,29 @@ def is_counted_within(header: xrit.Header) -> bool:
     return len(header.first(xrit.SEGMENT_KIND) or b"") == segments.PLANNED.size
 
 
-def whole_image(shelf: Shelf, number: int) -> tuple[Picture, Placement, segments.Group]:
-    """The image to which a file belongs, its segments put together, and where it lies. ShelfError where it can't be
-    had."""
+def placed_image(shelf: Shelf, number: int, is_alone: bool = False) -> tuple[Picture, Placement]:
+    """The image to which a file belongs, its segments put together, or that of the file alone, and where it lies.
+    ShelfError where it can't be had."""
     file = shelf.file(number)
     group = group_with(shelf, file)
-    first = min(group.parts, key=lambda part: part.segment.number if part.segment else 0)
-    leading = shelf.load(first.head) or file
-    picture = images.group_picture(shelf, group)
+    picture = images.picture_of(file) if is_alone else images.group_picture(shelf, group)
     if picture is None:
         raise ShelfError(f"file {number} has no image that can be had here")
-    header = leading.header
-    if first.segment and is_counted_within(header):
-        # (such an offset counts from the segment's first line, which is that of the whole image where it is the first
-        # one)
-        lines = header.structure.lines if header.structure else 0
-        placed = placement_of(header, True)
-        return picture, placed._replace(line_offset=placed.line_offset + first.segment.number * lines), group
-    return picture, placement_of(header, bool(group.segments)), group
+    if is_alone:
+        return picture, placement_of(file.header)
+    first = min(group.parts, key=lambda part: part.segment.number if part.segment else 0)
+    header = (shelf.load(first.head) or file).header
+    placement = placement_of(header, bool(group.segments))
+    if first.segment and header.structure and is_counted_within(header):
+        # (such an offset counts from the segment's first line, and the whole image's first one is above that)
+        below = first.segment.number * header.structure.lines
+        placement = placement._replace(line_offset=placement.line_offset + below)
+    return picture, placement
 
 
 def group_with(shelf: Shelf, file: StoredFile) -> segments.Group:
     """The group of files in which this one is."""
-    wanted = segments.segment_of(file)
-    heads = (
-        [it.head for it in shelf.fronts(gone=shelf.gone()) if it.file_type == xrit.IMAGE_TYPE]
-        if wanted
-        else [file.head]
-    )
+    heads = shelf.images() if segments.segment_of(file) else [file.head]
     groups = [it for it in segments.groups_of(shelf, heads) if isinstance(it, segments.Group)]
     found = [it for it in groups if file.number in it.numbers]
     if not found:  # (a mended segment in whose place a whole one has come)
@@ -155,9 +133,13 @@ def tiff_of(picture: Picture, placement: Placement) -> bytes:
         (PROJECTED_CITATION, GEO_TEXTS, len(text), 0),
         (LINEAR_UNIT, 0, 1, METRE),
     ]
+    factors = placement.column_factor, placement.line_factor
+    width, height = (HEIGHT * math.radians(FACTOR_ONE / it) for it in factors)  # metres
+    # (the upper left pixel is column 1 and begins at 0.5)
+    left, top = 0.5 - placement.column_offset, placement.line_offset - placement.first_line - 0.5
     tags = TiffImagePlugin.ImageFileDirectory_v2()
-    tags[PIXEL_SCALE] = placement.column_metres, placement.line_metres, 0.0
-    tags[TIE_POINT] = 0.0, 0.0, 0.0, placement.left, placement.top, 0.0
+    tags[PIXEL_SCALE] = width, height, 0.0
+    tags[TIE_POINT] = 0.0, 0.0, 0.0, left * width, top * height, 0.0
     tags[GEO_KEYS] = 1, 1, 0, len(keys), *(number for key in keys for number in key)
     tags[GEO_TEXTS] = text
     return images.written(images.plain_image(picture), "TIFF", compression="tiff_adobe_deflate", tiffinfo=tags)
@@ -166,12 +148,4 @@ def tiff_of(picture: Picture, placement: Placement) -> bytes:
 def geo(path: str, number: int, is_alone: bool = False) -> bytes:
     """The GeoTIFF of the image to which a file belongs, or of the file alone."""
     with Shelf(path) as shelf:
-        if not is_alone:
-            picture, placement, _ = whole_image(shelf, number)
-            return tiff_of(picture, placement)
-        file = shelf.file(number)
-        placement = placement_of(file.header)
-        alone = images.picture_of(file)
-        if alone is None:
-            raise ShelfError(f"file {number} has no image that can be had here")
-        return tiff_of(alone, placement)
+        return tiff_of(*placed_image(shelf, number, is_alone))

@@ -79,7 +79,7 @@ def draw(
 def overlay(path: str, number: int, lines_path: str | None, resolution: str, width: int) -> bytes:
     """The PNG of the image to which a file belongs, with coasts and borders over it."""
     with Shelf(path) as shelf:
-        picture, placement, _ = geo.whole_image(shelf, number)
+        picture, placement = geo.placed_image(shelf, number)
     image = images.grey_of(picture).convert("RGB")
     if lines_path:
         with open(lines_path, encoding="utf-8", errors="replace") as it:

@@ -331,9 +331,8 @@ def shown_image(pictures: Pictures, source: Source, group: Group, place: Place) 
     note = group.note if picture else "this image can't be shown here"
     numbers = segments.in_words(sorted(group.numbers))
     when = group.file.header.stamped(STAMP_FORM)
-    found = Shown(numbers, group.name, product.words, when, source.came(place), "image", note)
-    found.picture, found.thumbnail, found.is_full_disk = picture, thumbnail, product.is_full_disk
-    return found
+    about = (numbers, group.name, product.words, when, source.came(place))
+    return Shown(*about, "image", note, product.is_full_disk, picture, thumbnail)
 
 
 def shown_other(pictures: Pictures, source: Source, file: StoredFile, place: Place) -> list[Shown]:
@@ -341,11 +340,8 @@ def shown_other(pictures: Pictures, source: Source, file: StoredFile, place: Pla
     header, name = file.header, texts.name_of(file)
     kind = "header with a fault" if header.file_type == xrit.FAULTY else f"type {header.file_type}"
     plain = Shown(str(file.number), name, name, header.stamped(STAMP_FORM), source.came(place), kind)
-    inside = texts.inside(file)
-    found = [
-        (member, data.decode("utf-8")) for member, data in inside.items() if member.lower().endswith(texts.TEXT_ENDING)
-    ]
-    shown = []
+    inside, shown = texts.inside(file), []
+    found = [(it, data.decode()) for it, data in inside.items() if it.lower().endswith(texts.TEXT_ENDING)]
     for member, data in inside.items():
         ending = texts.ending_of(data)
         if ending:

@@ -15,7 +15,7 @@ from dataclasses import dataclass
 from typing import TYPE_CHECKING, NamedTuple
 
 from . import colours, folder as folders
-from . import images, products, program, segments, texts, xrit
+from . import images, products, program, segments, texts
 from . import shelf as shelves
 from .segments import Group
 from .shelf import Shelf
@@ -76,8 +76,7 @@ class Drawer:
 
     def groups(self) -> Iterator[Group]:
         """The images of the shelf. Of a file that can't be read there is a word."""
-        fronts = self.shelf.fronts(gone=self.shelf.gone())
-        for group in segments.groups_of(self.shelf, (it.head for it in fronts if it.file_type == xrit.IMAGE_TYPE)):
+        for group in segments.groups_of(self.shelf, self.shelf.images()):
             if not isinstance(group, Group):
                 self.failed = True
                 program.tell(f"file {group.number} of {self.shelf.path} has a bad checksum and is left out")

@@ -110,9 +110,7 @@ class Group:
     @property
     def area(self) -> int:
         """The pixels of the whole picture."""
-        structure = self.file.header.structure
-        if not structure:
-            return 0
+        structure = self.file.header.structure or xrit.Structure(0, 0, 0, 0)
         if not self.segments:
             return structure.area
         one = self.segments[0]

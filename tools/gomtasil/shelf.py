@@ -184,15 +184,10 @@ class Shelf:
 
     def read(self, place: int, count: int) -> bytes:
         """The bytes from a place on: fewer where the file ends."""
-        parts = []
-        while count:
-            part = os.pread(self.descriptor, count, place)
-            if not part:
-                break
-            parts.append(part)
-            place += len(part)
-            count -= len(part)
-        return b"".join(parts)
+        data = b""
+        while len(data) < count and (part := os.pread(self.descriptor, count - len(data), place + len(data))):
+            data += part
+        return data
 
     def read_capacity(self) -> int:
         header = self.read(0, HEADER_BYTES)
@@ -245,6 +240,10 @@ class Shelf:
         counter, _ = xrit.TRANSPORT.unpack_from(begin)
         has_type = fields.size > xrit.TRANSPORT.size + xrit.TYPE_PLACE
         return Front(head, fields, counter, begin[-1] if has_type else -1)
+
+    def images(self) -> Iterator[Head]:
+        """The heads of the images that aren't discarded, by what stands at their fronts."""
+        return (it.head for it in self.fronts(gone=self.gone()) if it.file_type == xrit.IMAGE_TYPE)
 
     def item(self, head: Head) -> bytes:
         """The bytes of an item, without its gate."""

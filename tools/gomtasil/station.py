@@ -8,6 +8,7 @@ is a trouble; with --once only where one is new, and once a day.
 import contextlib
 import fcntl
 import os
+import shutil
 import stat
 import time
 from collections.abc import Iterator
@@ -108,9 +109,8 @@ def look_at_shelves(state: State, bounds: Bounds, metrics: Metrics) -> None:
 
 def used_percent(folder: str) -> int:
     """How full the disk is, as `df` says it."""
-    about = os.statvfs(folder)
-    used = about.f_blocks - about.f_bfree
-    return -(-100 * used // (used + about.f_bavail)) if used + about.f_bavail else 100
+    _, used, free = shutil.disk_usage(folder)
+    return -(-100 * used // (used + free)) if used + free else 100
 
 
 def look_at_disk(state: State, bounds: Bounds, metrics: Metrics) -> None:
@@ -131,8 +131,7 @@ def look_at_quality(state: State, bounds: Bounds, metrics: Metrics) -> None:
         state.troubles["quality"] = f"no word of the quality for {int(age) // 60} minutes"
         return
     with open(path, encoding="ascii", errors="replace") as it:
-        line = it.read(1000)
-    told = quality.MINUTE_LINE.fullmatch(line.rstrip("\n"))
+        told = quality.MINUTE_LINE.fullmatch(it.read(1000).rstrip("\n"))
     frames, lost = (int(told[1]), int(told[2])) if told else (0, 0)
     if not told or frames == lost:
         metrics.add("frames", 0, folder=state.folder)
@@ -165,19 +164,13 @@ def week_of(when: time.struct_time) -> str:
 
 def removed(found: Found) -> bool:
     """Removes a shelf, if no process writes to it. The lock is held while it goes."""
-    try:
-        descriptor = os.open(found.path, os.O_RDONLY | os.O_NOFOLLOW)
-    except OSError:
-        return False
-    try:
-        fcntl.flock(descriptor, fcntl.LOCK_EX | fcntl.LOCK_NB)
-        os.unlink(found.path)
-    except OSError:
-        return False
-    finally:
-        os.close(descriptor)
-    program.tell(f"removed {found.path}")
-    return True
+    with contextlib.suppress(OSError):
+        with open(os.open(found.path, os.O_RDONLY | os.O_NOFOLLOW), "rb") as it:
+            fcntl.flock(it, fcntl.LOCK_EX | fcntl.LOCK_NB)
+            os.unlink(found.path)
+        program.tell(f"removed {found.path}")
+        return True
+    return False
 
 
 def removed_old(folder: str, bounds: Bounds) -> list[str]:

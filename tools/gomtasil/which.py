@@ -39,13 +39,8 @@ class Tried(NamedTuple):
 
 def tried(symbols: bytes, options: tuple[str, ...]) -> Tried:
     done = subprocess.run([program.name(), "-", "decode", *options], input=symbols, stdout=subprocess.PIPE, check=True)
-    corrected = 0
-    last: list[bytes] = []
-    for line in done.stdout.splitlines():
-        words = line.split()
-        if words[0] == b"window":
-            corrected += LOST_BYTES if words[6] == b"lost" else sum(map(int, words[7:11]))
-        last = words
+    *windows, last = map(bytes.split, done.stdout.splitlines())
+    corrected = sum(LOST_BYTES if it[6] == b"lost" else sum(map(int, it[7:11])) for it in windows)
     numbers = dict(zip(last[::2], last[1::2]))
     return Tried(options, int(numbers[b"frames"]), int(numbers[b"restored"]), corrected)
 
