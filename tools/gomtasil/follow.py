@@ -80,12 +80,7 @@ class Follower:
         self.label, self.log = journal.log_of(folder.state, shelf, wishes.prefix)
         self.parts = folders.Parts(os.path.join(folder.state, self.label + ".parts"))
         self.faults = 0
-        self.mark = self.mark_on(shelf)
-
-    def mark_on(self, shelf: Shelf) -> bytes:
-        """Some bytes of the last item that was taken, by which another shelf in the same place is known."""
-        last = self.log.end_of()
-        return shelf.mark(last) if last else b""
+        self.mark = self.log.mark_on(shelf)
 
     def close(self) -> None:
         self.parts.keep(self.log.noted)
@@ -113,7 +108,7 @@ class Follower:
                 self.discard(shelf, batch[0])
             else:
                 self.take(shelf, batch, gone)
-        self.mark = self.mark_on(shelf)
+        self.mark = self.log.mark_on(shelf)
         # (where the items break off, this raises the fault)
         next(self.heads(shelf), None)
 
@@ -252,7 +247,7 @@ class Station:
     def follower_of(self, shelf: Shelf) -> Follower:
         """The follower of a shelf; a new one where another shelf has come to stand at its path."""
         follower = self.followers.get(shelf.path)
-        if follower and follower.mark != follower.mark_on(shelf):
+        if follower and follower.mark != follower.log.mark_on(shelf):
             self.followers.pop(shelf.path).close()
             follower = None
         if not follower:

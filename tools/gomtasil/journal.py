@@ -178,9 +178,10 @@ class Log:
             return self.shelf_path in (None, os.path.realpath(shelf.path))
         return sum_of(shelf.read(self.last.gate + 1, self.last.extent)) == self.last.sum
 
-    def end_of(self) -> Head | None:
-        """The head of the last item that was taken."""
-        return Head(self.last.gate, self.last.extent, self.last.number, False) if self.last else None
+    def mark_on(self, shelf: Shelf) -> bytes:
+        """Some bytes of the last item that was taken, by which another shelf in the same place is known."""
+        last = self.last
+        return shelf.mark(Head(last.gate, last.extent, last.number, False)) if last else b""
 
 
 def log_of(state: str, shelf: Shelf, prefix: str = "") -> tuple[str, Log]:

@@ -547,12 +547,11 @@ def sources_of(paths: list[str], state: str, wishes: Wishes) -> Iterator[Source]
             return
 
 
-def counts_of(source: Source) -> Iterator[tuple[int, int, int, int, str]]:
+def counts_of(source: Source) -> Iterator[tuple[str, ...]]:
     """A row for each application of a channel."""
     for key, (files, size) in sorted(source.summary.counts.items(), key=lambda it: list(map(int, it[0].split()))):
-        channel, application = map(int, key.split())
         last = source.shelf.load(source.summary.lasts[key].head)
-        yield channel, application, files, size, texts.name_of(last) if last else ""
+        yield *key.split(), f"{files:,}", f"{size:,}", texts.name_of(last) if last else ""
 
 
 def write_page(path: str, folder: str, wishes: Wishes) -> None:
@@ -583,7 +582,7 @@ def write_page(path: str, folder: str, wishes: Wishes) -> None:
         "hero": hero,
         "kinds": content.kinds(),
         "bulletins": content.groups(),
-        "others": content.others,
+        "others": [(it.numbers, it.name, it.when, it.kind, it.note) for it in content.others],
         "shelves": list(map(row_of, found)),
         "shown": f"{first.summary.files} files on {os.path.basename(first.shelf.path)}"
         if first
@@ -597,9 +596,8 @@ def write_page(path: str, folder: str, wishes: Wishes) -> None:
     forget(state, paths)
 
 
-def row_of(found: station.Found) -> dict[str, Any]:
-    name = os.path.basename(found.path)
-    return {"name": name, "size": found.size, "full": found.full, "changed": utc(found.changed)}
+def row_of(found: station.Found) -> tuple[str, ...]:
+    return os.path.basename(found.path), f"{found.size:,}", f"{found.full} %", utc(found.changed)
 
 
 def forget(state: str, paths: list[str]) -> None:
