@@ -51,12 +51,9 @@ def missions(count):
 
 
 def items(count):
-    """The items of a shelf of version 2, one after another."""
+    """The items of a shelf, one after another."""
     for number, (channel, application, proper) in enumerate(missions(count)):
-        content = xrit.TRANSPORT.pack(number % 65536, 8 * len(proper)) + proper
-        fields = shelf.FIELDS.pack(channel, application, 1, len(content)) + shelf.ORIGIN.pack(number, number, 0)
-        item = bytes([shelf.FILE]) + fields + len(content).to_bytes(2, "big") + content
-        yield item + shelf.checksum(item).to_bytes(shelf.CHECKSUM_BYTES, "big")
+        yield shelf.item_of(channel, application, sample.bodies_of(number, proper), number)
 
 
 def run(words):

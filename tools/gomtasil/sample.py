@@ -253,6 +253,12 @@ def zipped_bulletin(text: str) -> bytes:
 # ---- packets and frames
 
 
+def bodies_of(counter: int, proper: bytes) -> list[bytes]:
+    """What the packets carry in which a file is sent."""
+    content = xrit.TRANSPORT.pack(counter % 65536, 8 * len(proper)) + proper
+    return [content[at : at + BODY_BYTES] for at in range(0, len(content), BODY_BYTES)]
+
+
 class Sender:
     """Frames of files. Each file begins a new frame of its channel; counters go on from file to file."""
 
@@ -266,10 +272,7 @@ class Sender:
         data = body + checksum(body).to_bytes(2, "big")
         return PACKET_HEAD.pack(application, flags << 14 | count, len(data) - 1) + data
 
-    def packets(self, channel: int, application: int, proper: bytes) -> Iterator[bytes]:
-        content = xrit.TRANSPORT.pack(self.files % 65536, 8 * len(proper)) + proper
-        self.files += 1
-        bodies = [content[at : at + BODY_BYTES] for at in range(0, len(content), BODY_BYTES)]
+    def packets(self, channel: int, application: int, bodies: list[bytes]) -> Iterator[bytes]:
         for place, body in enumerate(bodies):
             flags = (FIRST if place == 0 else GOING_ON) + (LAST if place == len(bodies) - 1 else GOING_ON)
             yield self.packet(channel, application, flags, body)
@@ -280,9 +283,14 @@ class Sender:
         return head + pointer.to_bytes(2, "big") + zone
 
     def file(self, channel: int, application: int, proper: bytes) -> Iterator[bytes]:
-        """The frames of a file; an idle packet fills the last one."""
+        """The frames of a file."""
+        self.files += 1
+        return self.frames(channel, application, bodies_of(self.files - 1, proper))
+
+    def frames(self, channel: int, application: int, bodies: list[bytes]) -> Iterator[bytes]:
+        """The frames of a file in these bodies; an idle packet fills the last one."""
         stream, starts = b"", []
-        for packet in self.packets(channel, application, proper):
+        for packet in self.packets(channel, application, bodies):
             starts.append(len(stream))
             stream += packet
         left = -len(stream) % ZONE_BYTES

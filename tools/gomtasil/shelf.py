@@ -129,6 +129,13 @@ def file_of(head: Head, item: bytes) -> StoredFile:
     return StoredFile(head, fields, counter, content[xrit.TRANSPORT.size :], item)
 
 
+def item_of(channel: int, application: int, bodies: list[bytes], frame: int = 0) -> bytes:
+    """The item of a file whose packets, of one frame in which nothing was corrected, have these bodies."""
+    fields = FIELDS.pack(channel, application, len(bodies), sum(map(len, bodies))) + ORIGIN.pack(frame, frame, 0)
+    item = bytes([FILE]) + fields + b"".join(len(it).to_bytes(2, "big") for it in bodies) + b"".join(bodies)
+    return item + checksum(item).to_bytes(CHECKSUM_BYTES, "big")
+
+
 def shelf_of(items: Iterable[bytes]) -> bytes:
     """The bytes of a shelf that has these items alone."""
     body = b"".join(bytes([OPEN]) + item for item in items) + b"\0"
