@@ -4,6 +4,7 @@ are made by the maker of `gomtasil sample`, and ELEKTRO's prologue by satpy's ow
 
 import datetime
 import glob
+import itertools
 import os
 import struct
 import sys
@@ -149,10 +150,10 @@ def keep(folder, name, pixels):
 
 def draw(folder):
     sender = sample.Sender()
-    for make in (himawari, elektro, goes):
-        for channel, application, file in make(folder):
-            for frame in sender.file(channel, application, file):
-                sys.stdout.buffer.write(frame)
+    files = itertools.chain.from_iterable(make(folder) for make in (himawari, elektro, goes))
+    for number, (channel, application, file) in enumerate(files):
+        for frame in sender.frames(channel, application, sample.bodies_of(number, file)):
+            sys.stdout.buffer.write(frame)
 
 
 # ---- comparing

@@ -263,29 +263,20 @@ class Sender:
     """Frames of files. Each file begins a new frame of its channel; counters go on from file to file."""
 
     def __init__(self) -> None:
-        self.files = 0
         self.counts: dict[tuple[int, int], Iterator[int]] = collections.defaultdict(itertools.count)
         self.counters: dict[int, Iterator[int]] = collections.defaultdict(itertools.count)
-
-    def packet(self, channel: int, application: int, flags: int, body: bytes) -> bytes:
-        count = next(self.counts[channel, application]) % COUNT_MODULUS
-        data = body + checksum(body).to_bytes(2, "big")
-        return PACKET_HEAD.pack(application, flags << 14 | count, len(data) - 1) + data
 
     def packets(self, channel: int, application: int, bodies: list[bytes]) -> Iterator[bytes]:
         for place, body in enumerate(bodies):
             flags = (FIRST if place == 0 else GOING_ON) + (LAST if place == len(bodies) - 1 else GOING_ON)
-            yield self.packet(channel, application, flags, body)
+            count = next(self.counts[channel, application]) % COUNT_MODULUS
+            data = body + checksum(body).to_bytes(2, "big")
+            yield PACKET_HEAD.pack(application, flags << 14 | count, len(data) - 1) + data
 
     def frame(self, channel: int, pointer: int, zone: bytes) -> bytes:
         counter = next(self.counters[channel]) % COUNTER_MODULUS
         head = (1 << 14 | SPACECRAFT << 6 | channel).to_bytes(2, "big") + counter.to_bytes(3, "big") + b"\0"
         return head + pointer.to_bytes(2, "big") + zone
-
-    def file(self, channel: int, application: int, proper: bytes) -> Iterator[bytes]:
-        """The frames of a file."""
-        self.files += 1
-        return self.frames(channel, application, bodies_of(self.files - 1, proper))
 
     def frames(self, channel: int, application: int, bodies: list[bytes]) -> Iterator[bytes]:
         """The frames of a file in these bodies; an idle packet fills the last one."""
@@ -315,11 +306,11 @@ def downlink(minutes: int) -> Iterator[bytes]:
     files.insert(3, (TEXT_CHANNEL, TEXT_APPLICATION, zipped_bulletin(BULLETIN)))
     total = minutes * 60 * SYMBOLS_A_SECOND // SYMBOLS_A_FRAME
     sent = 0
-    for place, file in enumerate(files):
+    for place, (channel, application, proper) in enumerate(files):
         while sent < total * place // len(files):
             yield sender.fill()
             sent += 1
-        for frame in sender.file(*file):
+        for frame in sender.frames(channel, application, bodies_of(place, proper)):
             yield frame
             sent += 1
     for _ in range(sent, total):
