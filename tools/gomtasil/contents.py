@@ -19,26 +19,20 @@ def product_of(path: str, file: StoredFile) -> folders.Product:
         return whole(file)
     if file.header.is_image:
         return product_of_image(file, what)
-    if file.data.startswith(texts.ZIP_SIGNATURE):
-        return product_of_zip(file.data, what)
-    return folders.Product(*texts.opened(file.data, file.header.is_declared_text))
+    try:
+        files = texts.inside(file)
+    except texts.BadZip as fault:
+        program.tell(f"{what} stays a zip: {fault}")
+        return folders.Product(texts.ZIP_ENDING, file.data)
+    if len(files) > 1:
+        return folders.Product("", files)
+    ((name, data),) = files.items()
+    return folders.Product(name if name.startswith(".") else "-" + name[-MOST_MEMBER_CHARACTERS:], data)
 
 
 def whole(file: StoredFile) -> folders.Product:
     """The file as it is, where nothing in it can be opened."""
     return folders.Product(folders.WHOLE_ENDING, file.proper, False)
-
-
-def product_of_zip(data: bytes, what: str) -> folders.Product:
-    try:
-        files = texts.unzipped(data)
-    except texts.BadZip as fault:
-        program.tell(f"{what} stays a zip: {fault}")
-        return folders.Product(texts.ZIP_ENDING, data)
-    if len(files) > 1:
-        return folders.Product("", files)
-    ((name, inside),) = files.items()
-    return folders.Product("-" + name[-MOST_MEMBER_CHARACTERS:], inside)
 
 
 def product_of_image(file: StoredFile, what: str) -> folders.Product:

@@ -220,7 +220,12 @@ class Station:
             self.followers.pop(path).close()
         for path in paths:
             try:
-                self.look_at(path)
+                with Shelf(path) as shelf:
+                    follower = self.follower_of(shelf)
+                    try:
+                        follower.take_all(shelf)
+                    finally:
+                        self.failed = self.failed or follower.faults > 0
                 self.told.pop(path, None)
             except BrokenPipeError:
                 raise
@@ -235,14 +240,6 @@ class Station:
             self.next_clearing = time.monotonic() + KEEP_SECONDS
             for name in self.folder.remove_days(self.wishes.keep_days):
                 program.tell(f"removed {self.folder.full(name)}")
-
-    def look_at(self, path: str) -> None:
-        with Shelf(path) as shelf:
-            follower = self.follower_of(shelf)
-            try:
-                follower.take_all(shelf)
-            finally:
-                self.failed = self.failed or follower.faults > 0
 
     def follower_of(self, shelf: Shelf) -> Follower:
         """The follower of a shelf; a new one where another shelf has come to stand at its path."""

@@ -6,6 +6,7 @@ The page needs no network and no script, and loads itself anew. Pictures that it
 # Jinja2 writes the page, with every text quoted; page.html is its form.
 
 import collections
+import contextlib
 import hashlib
 import os
 import re
@@ -340,7 +341,10 @@ def shown_other(pictures: Pictures, source: Source, file: StoredFile, place: Pla
     header, name = file.header, texts.name_of(file)
     kind = "header with a fault" if header.file_type == xrit.FAULTY else f"type {header.file_type}"
     plain = Shown(str(file.number), name, name, header.stamped(STAMP_FORM), source.came(place), kind)
-    inside, shown = texts.inside(file), []
+    inside, shown = {}, []
+    if header.is_open:
+        with contextlib.suppress(texts.BadZip):
+            inside = texts.inside(file)
     found = [(it, data.decode()) for it, data in inside.items() if it.lower().endswith(texts.TEXT_ENDING)]
     for member, data in inside.items():
         ending = texts.ending_of(data)

@@ -102,7 +102,11 @@ class Drawer:
                 program.tell(f"{self.name_of(group)}: {group.note}")
         wanted = [it for it in groups if not self.standing(self.name_of(it)) and not self.put_as_sent(it)]
         for group, picture in zip(wanted, images.group_pictures(self.shelf, wanted)):
-            self.put_picture(group, picture)
+            if picture:
+                self.put(self.name_of(group) + ".png", images.png_of(picture))
+            else:
+                where = f"file {segments.in_words(sorted(group.numbers))} of {self.shelf.path}"
+                program.tell(f"{group.name}: {where} has no image that can be had here")
         drawn = [Drawn(name, it) for it in groups if (name := self.standing(self.name_of(it)))]
         for it in drawn:
             self.enhance(it)
@@ -122,13 +126,6 @@ class Drawer:
             return False
         self.put(self.name_of(group) + ending, file.data)
         return True
-
-    def put_picture(self, group: Group, picture: images.Picture | None) -> None:
-        if picture:
-            self.put(self.name_of(group) + ".png", images.png_of(picture))
-            return
-        numbers = segments.in_words(sorted(group.numbers))
-        program.tell(f"{group.name}: file {numbers} of {self.shelf.path} has no image that can be had here")
 
     def put(self, name: str, data: bytes) -> None:
         try:

@@ -88,15 +88,6 @@ def heading_of(text: str) -> Heading | None:
 # ---- zips
 
 
-def member_data(archive: zipfile.ZipFile, member: zipfile.ZipInfo, room: int) -> bytes:
-    """The bytes of a member, if they are at most this many."""
-    with archive.open(member) as it:
-        data = it.read(room + 1)
-    if len(data) > room:
-        raise BadZip("it is too large when it is unpacked")
-    return data
-
-
 def is_file(member: zipfile.ZipInfo) -> bool:
     """Whether a member is a file: no folder and no link."""
     return not member.filename.endswith("/") and stat.S_IFMT(member.external_attr >> 16) in (0, stat.S_IFREG)
@@ -118,8 +109,11 @@ def members_of(data: bytes) -> list[tuple[str, bytes]]:
             for member in filter(is_file, archive.infolist()):
                 if not is_plain(member):
                     raise BadZip("a file in it is encrypted, or packed in another way")
-                found.append((member.filename, member_data(archive, member, room)))
+                with archive.open(member) as it:
+                    found.append((member.filename, it.read(room + 1)))
                 room -= len(found[-1][1])
+                if room < 0:
+                    raise BadZip("it is too large when it is unpacked")
     except BadZip:
         raise
     except Exception as fault:  # (zipfile has errors of many kinds for bytes that are no zip)
@@ -147,13 +141,7 @@ def unused(name: str, names: dict[str, bytes]) -> str:
 
 
 def inside(file: StoredFile) -> dict[str, bytes]:
-    """What is in a file that is no image, by names with endings: itself, or the files of a zip. Nothing where it can't
-    be opened."""
-    if not file.header.is_open:
-        return {}
-    if not file.data.startswith(ZIP_SIGNATURE):
-        return dict([opened(file.data, file.header.is_declared_text)])
-    try:
+    """What is in a file that is no image, by names with endings: itself by its ending alone, or the files of a zip."""
+    if file.data.startswith(ZIP_SIGNATURE):
         return unzipped(file.data)
-    except BadZip:
-        return {}
+    return dict([opened(file.data, file.header.is_declared_text)])
