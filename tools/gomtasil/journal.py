@@ -3,6 +3,7 @@
 A log isn't kept in memory: of 10^6 files it has some 120 MB. Its last line says where to go on, and the line of a file
 is found by halving, since the count of files grows along it. """
 
+import contextlib
 import fcntl
 import hashlib
 import itertools
@@ -59,12 +60,11 @@ class Log:
     def __init__(self, path: str):
         self.path = path
         self.descriptor = os.open(path, os.O_RDWR | os.O_CREAT, 0o644)
+        self.is_mine = False
         try:
-            fcntl.flock(self.descriptor, fcntl.LOCK_EX | fcntl.LOCK_NB)
-            self.is_mine = True
-        except BlockingIOError:
-            self.is_mine = False
-        try:
+            with contextlib.suppress(BlockingIOError):
+                fcntl.flock(self.descriptor, fcntl.LOCK_EX | fcntl.LOCK_NB)
+                self.is_mine = True
             self.read()
         except BaseException:
             self.close()

@@ -85,18 +85,13 @@ class Stretches:
         self.length = 1
         self.sums: dict[int, list[float]] = {}
 
-    def add(self, place: int, value: float) -> None:
+    def add(self, place: int, value: float, count: float = 1) -> None:
         row = self.sums.setdefault(place // self.length, [0, 0])
-        row[0] += 1
-        row[1] += value
-        while len(self.sums) > MOST_STRETCHES:
-            self.length *= 2
-            merged: dict[int, list[float]] = {}
-            for key, (count, total) in self.sums.items():
-                row = merged.setdefault(key // 2, [0, 0])
-                row[0] += count
-                row[1] += total
-            self.sums = merged
+        row[:] = row[0] + count, row[1] + value
+        if len(self.sums) > MOST_STRETCHES:
+            rows, self.sums, self.length = self.sums, {}, 2 * self.length
+            for key, (number, total) in rows.items():
+                self.add(key * self.length // 2, total, number)
 
     @property
     def points(self) -> list[tuple[float, float]]:

@@ -30,12 +30,8 @@ def reason(fault: BaseException) -> str:
 
 def end_by_signals() -> None:
     """Makes the signals that ask for an end raise SystemExit, so that what is half done is removed."""
-
-    def end(number: int, _: object) -> None:
-        sys.exit(128 + number)
-
     for it in SIGNALS:
-        signal.signal(it, end)
+        signal.signal(it, lambda number, _: sys.exit(128 + number))
 
 
 def hold_signals() -> None:

@@ -6,6 +6,7 @@ was asked for before a gate.
 """
 
 import binascii
+import contextlib
 import os
 import struct
 from collections.abc import Callable, Iterable, Iterator
@@ -145,10 +146,8 @@ def shelf_of(items: Iterable[bytes]) -> bytes:
 
 def sound(heads: Iterable[Head]) -> Iterator[Head]:
     """Heads up to where the items break off."""
-    try:
+    with contextlib.suppress(ShelfError):
         yield from heads
-    except ShelfError:
-        return
 
 
 class Pieces:
@@ -207,14 +206,9 @@ class Shelf:
     def heads(self, gate: int = FIRST_GATE, number: int = 0) -> Iterator[Head]:
         """The heads of the items from a gate on, where the next file has this number."""
         pieces = Pieces(self.read)
-        while True:
-            head = self.head_at(pieces, gate, number)
-            if head is None:
-                return
+        while head := self.head_at(pieces, gate, number):
             yield head
-            gate = head.next_gate
-            if not head.is_discard:
-                number += 1
+            gate, number = head.next_gate, number + (not head.is_discard)
 
     def head_at(self, pieces: Pieces, gate: int, number: int) -> Head | None:
         """The head of the item after a gate, or None where the gate is closed."""

@@ -223,9 +223,8 @@ def look_at(folder: str, bounds: Bounds, metrics: Metrics | None = None) -> Stat
     if not os.path.isdir(folder):
         state.troubles["folder"] = "no folder"
         return state
-    look_at_shelves(state, bounds, metrics)
-    look_at_disk(state, bounds, metrics)
-    look_at_quality(state, bounds, metrics)
+    for look in (look_at_shelves, look_at_disk, look_at_quality):
+        look(state, bounds, metrics)
     return state
 
 
