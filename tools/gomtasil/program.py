@@ -37,6 +37,8 @@ def end_by_signals() -> None:
 def hold_signals() -> None:
     """Blocks the signals that ask for an end, so that none ends anything in its middle."""
     signal.pthread_sigmask(signal.SIG_BLOCK, SIGNALS)
+    for it in SIGNALS:  # (what is started from here has none of the handlers of `end_by_signals`)
+        signal.signal(it, signal.SIG_DFL)
 
 
 def pending_signal() -> signal.Signals | None:
