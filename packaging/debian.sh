@@ -45,7 +45,7 @@ Version: $version
 Architecture: $architecture
 Maintainer: Gomtasil maintainers <maintainers@users.noreply.gomtasil.example>
 Installed-Size: $(du -sk --apparent-size "$package/usr" | cut -f 1)
-Depends: libc6 (>= 2.34), python3
+Depends: libc6 (>= 2.34), python3 (>= 3.11)
 Recommends: netcat-openbsd, python3-jinja2, python3-pil
 Suggests: gmt, gmt-gshhg-low, gnuradio, nanomsg-utils
 Section: hamradio

@@ -9,7 +9,6 @@ to be those that were sent, and those of an image that isn't coded are 0 within 
 from __future__ import annotations
 
 import argparse
-import binascii
 import dataclasses
 import os
 import pathlib
@@ -18,17 +17,13 @@ import shutil
 import struct
 import subprocess
 import sys
-from collections.abc import Iterable, Iterator, Sequence
+from collections.abc import Iterable
 
 sys.path.insert(0, str(pathlib.Path(__file__).resolve().parent.parent / "tools"))
+from gomtasil import sample, xrit  # noqa: E402
 from gomtasil import shelf as shelves  # noqa: E402
 
-ZONE = 884
 FRAME = 892
-IDLE = 2047
-NO_START = 2047
-COUNTS = 1 << 14
-COUNTERS = 1 << 24
 CHANNEL, APPLICATION = 13, 313
 RATES = (0.001, 0.005, 0.01, 0.02)
 FILLERS = (16, 64, 255)
@@ -38,33 +33,6 @@ ORBITS = """TEST
 1 25544U 98067A   24001.50000000  .00016717  00000-0  10270-3 0  9005
 2 25544  51.6400 208.9163 0006317  69.9862  25.2906 15.49560000 10009
 """
-
-
-class Sender:
-    """Packets of one application with counts that go on, and their frames. Each file begins a frame."""
-
-    def __init__(self) -> None:
-        self.count = 0
-        self.counter = 0
-
-    def frames(self, bodies: Sequence[bytes]) -> Iterator[bytes]:
-        stream, starts = bytearray(), []
-        for place, body in enumerate(bodies):
-            flags = 1 if place == 0 else 2 if place == len(bodies) - 1 else 0
-            data = body + binascii.crc_hqx(body, 0xFFFF).to_bytes(2, "big")
-            starts.append(len(stream))
-            stream += struct.pack(">HHH", APPLICATION, flags << 14 | self.count, len(data) - 1) + data
-            self.count = (self.count + 1) % COUNTS
-        left = -len(stream) % ZONE
-        if left:
-            left += ZONE if left <= 6 else 0
-            starts.append(len(stream))
-            stream += struct.pack(">HHH", IDLE, 3 << 14, left - 7) + bytes(left - 6)
-        for first in range(0, len(stream), ZONE):
-            inside = [start - first for start in starts if first <= start < first + ZONE]
-            head = (1 << 14 | 7 << 6 | CHANNEL).to_bytes(2, "big") + self.counter.to_bytes(3, "big") + b"\0"
-            self.counter = (self.counter + 1) % COUNTERS
-            yield head + (inside[0] if inside else NO_START).to_bytes(2, "big") + bytes(stream[first : first + ZONE])
 
 
 @dataclasses.dataclass
@@ -88,9 +56,8 @@ def plain_image(columns: int, lines: int, draw: random.Random) -> Image:
     """An image that isn't coded, a line in each body."""
     row = [draw.randrange(1, 256) for _ in range(columns)]
     pixels = b"".join(bytes((value + line) % 255 + 1 for value in row) for line in range(lines))
-    records = struct.pack(">BHBHHB", 1, 9, 8, columns, lines, 0)
-    proper = struct.pack(">BHBIQ", 0, 16, 0, 16 + len(records), 8 * len(pixels)) + records
-    head = struct.pack(">HQ", 1, 8 * (len(proper) + len(pixels))) + proper
+    proper = xrit.mission_file(xrit.IMAGE_TYPE, sample.structure(8, columns, lines), pixels)
+    head = xrit.TRANSPORT.pack(1, 8 * len(proper)) + proper[: -len(pixels)]
     bodies = [head] + [pixels[at : at + columns] for at in range(0, len(pixels), columns)]
     return Image(columns, lines, pixels, bodies, columns, False)
 
@@ -136,7 +103,7 @@ class Station:
 
 def coded_image(station: Station, image: Image) -> Image:
     """The same image, each line coded by itself."""
-    station.received(b"".join(Sender().frames(image.bodies)), 0)
+    station.received(b"".join(sample.Sender().frames(CHANNEL, APPLICATION, image.bodies)), 0)
     station.run("repack", "0", "16")
     with shelves.Shelf(station.shelf) as shelf:
         stored = shelf.load(list(shelf.heads())[1])
@@ -170,8 +137,8 @@ def check(station: Station, image: Image, places: Iterable[int], what: str) -> N
 def row(station: Station, image: Image, rate: float, draws: int, seed: int) -> list[str]:
     """One row of the table: how many images are whole, and with each N how many are mended and lost."""
     draw = random.Random(seed)
-    sender = Sender()
-    first, second = list(sender.frames(image.bodies)), list(sender.frames(image.bodies))
+    sender = sample.Sender()
+    first, second = (list(sender.frames(CHANNEL, APPLICATION, image.bodies)) for _ in range(2))
     whole = 0
     mended = dict.fromkeys(FILLERS, 0)
     lost = dict.fromkeys(FILLERS, 0)
@@ -232,9 +199,10 @@ def lines_in_place(image: Image, pixels: bytes) -> int:
 def beside(station: Station, satdump: SatDump, image: Image, rate: float, draws: int, seed: int) -> list[str]:
     """One row beside SatDump: of the images that are shown, how many lines stand in their place."""
     draw = random.Random(seed)
-    sender = Sender()
-    first = list(sender.frames(image.bodies))
-    second = list(sender.frames(plain_image(image.columns, image.lines, random.Random(2)).bodies))
+    sender = sample.Sender()
+    first = list(sender.frames(CHANNEL, APPLICATION, image.bodies))
+    other = plain_image(image.columns, image.lines, random.Random(2))
+    second = list(sender.frames(CHANNEL, APPLICATION, other.bodies))
     ours: list[int] = []
     theirs: list[int] = []
     for _ in range(draws):
@@ -257,7 +225,8 @@ def main() -> None:
     station = Station(os.environ["LRITSTATION"], words.folder)
     plain = plain_image(1330, 1330, random.Random(1))
     coded = coded_image(station, plain)
-    print(f"plain {len(list(Sender().frames(plain.bodies)))} frames, coded {len(list(Sender().frames(coded.bodies)))}")
+    counts = [len(list(sample.Sender().frames(CHANNEL, APPLICATION, it.bodies))) for it in (plain, coded)]
+    print(f"plain {counts[0]} frames, coded {counts[1]}")
     print("lines | frames lost | whole | " + " | ".join(f"N = {most}: mended, lost" for most in FILLERS))
     for image in (plain, coded):
         for seed, rate in enumerate(RATES):

@@ -4,6 +4,7 @@ are made by the maker of `gomtasil sample`, and ELEKTRO's prologue by satpy's ow
 
 import datetime
 import glob
+import itertools
 import os
 import struct
 import sys
@@ -58,9 +59,7 @@ def himawari(folder):
             sample.navigation(
                 "GEOS(140.70)", HIMAWARI_FACTOR, HIMAWARI_FACTOR, HIMAWARI_COLUMNS // 2, HIMAWARI_COLUMNS // 2
             ),
-            xrit.record(
-                3, b"$HALFTONE:=16\r_NAME:=INFRARED\r_UNIT:=KELVIN\r0:=329.93\r1023:=130.02\r65535:=130.02\r"
-            ),
+            xrit.record(3, b"$HALFTONE:=16\r_NAME:=INFRARED\r_UNIT:=KELVIN\r0:=329.93\r1023:=130.02\r65535:=130.02\r"),
             sample.annotation(name),
             sample.stamp(HIMAWARI_WHEN),
             xrit.record(7, bytes(4)),
@@ -151,10 +150,10 @@ def keep(folder, name, pixels):
 
 def draw(folder):
     sender = sample.Sender()
-    for make in (himawari, elektro, goes):
-        for channel, application, file in make(folder):
-            for frame in sender.file(channel, application, file):
-                sys.stdout.buffer.write(frame)
+    files = itertools.chain.from_iterable(make(folder) for make in (himawari, elektro, goes))
+    for number, (channel, application, file) in enumerate(files):
+        for frame in sender.frames(channel, application, sample.bodies_of(number, file)):
+            sys.stdout.buffer.write(frame)
 
 
 # ---- comparing
@@ -261,16 +260,11 @@ def placed(files, tiff):
 
 
 def tags_of(path, wanted):
-    """The doubles of a tag of a TIFF."""
-    with open(path, "rb") as it:
-        data = it.read()
-    (at,) = struct.unpack(">I", data[4:8])
-    (count,) = struct.unpack(">H", data[at : at + 2])
-    for place in range(at + 2, at + 2 + 12 * count, 12):
-        tag, _, number, start = struct.unpack(">HHII", data[place : place + 12])
-        if tag == wanted:
-            return struct.unpack_from(f">{number}d", data, start)
-    return None
+    """The numbers of a tag of a TIFF."""
+    from PIL import Image
+
+    with Image.open(path) as it:
+        return it.tag_v2[wanted]
 
 
 def main():

@@ -33,8 +33,8 @@ count=$(grep -c '^shelved' log)
 "$LRITSTATION" sent.shelf transmit 0 "$count" 8 --line nrz-m --g2 plain |
     "$LRITSTATION" received.shelf receive --line nrz-m --g2 plain > log || fail "receive, of symbols"
 tail -n 1 log
-tool="$top/tools/bin/gomtasil"
-"$tool" follow received.shelf files --flat > log || fail "follow"
+tool() { "$python" "$top/tools/bin/gomtasil" "$@"; }
+tool follow received.shelf files --flat > log || fail "follow"
 echo "files: $count sent, $(wc -l < log | tr -d ' ') taken by follow"
 "$python" "$top/trials/satellites.py" compare drawn files || fail "satpy reads something else"
 
@@ -44,7 +44,7 @@ while read -r number name; do
     case $name in
     L-000*-00_6_* | OR_ABI*)
         coded=$("$LRITSTATION" received.shelf repack "$number" 16 | cut -d ' ' -f 4) || fail "repack"
-        "$tool" plain received.shelf "$coded" "plain/$name" || fail "plain"
+        tool plain received.shelf "$coded" "plain/$name" || fail "plain"
         cmp -s "plain/$name" "files/$name" || fail "plain gives another $name"
         ;;
     *)
@@ -57,5 +57,5 @@ echo "plain files of coded ones: the same in satpy"
 
 # an image of Himawari's, where satpy places it
 number=$(awk '$2 ~ /^IMG_DK01B14.*_001$/ { print $1 }' log)
-"$tool" geo received.shelf "$number" placed.tif --alone || fail "geo"
+tool geo received.shelf "$number" placed.tif --alone || fail "geo"
 "$python" "$top/trials/satellites.py" placed files placed.tif || fail "geo places the image elsewhere"

@@ -126,6 +126,7 @@ is "the status of contents.service after a stop" "$(property contents.service Ex
 
 # frames, as goesrecv's packets
 systemctl stop station.service
+is "whether a stop is a failure" "$(is_failed && echo yes)" ""
 sed -i 's/^SOURCE=.*/SOURCE="cat \/srv\/frames; exec sleep 1000"/; s/^OPTIONS=.*/OPTIONS="--input frames"/' /etc/gomtasil/station.conf
 cp frames /srv/frames
 rm /srv/station/*.shelf
@@ -134,7 +135,7 @@ until_it has_files /srv/station 63
 
 # images may be mended: the reception has the option, and the quality is told beside it
 systemctl stop station.service
-sed -i 's/^SOURCE=.*/SOURCE="cat \/srv\/symbols"/; s/^OPTIONS=.*/OPTIONS="--mend 64"/' /etc/gomtasil/station.conf
+sed -i 's/^SOURCE=.*/SOURCE="cat \/srv\/symbols"/; s/^OPTIONS=.*/OPTIONS="--line nrz-m --g2 plain --mend 64"/' /etc/gomtasil/station.conf
 cp symbols /srv/symbols
 rm -f /srv/station/*.shelf /srv/station/quality
 systemctl start station.service

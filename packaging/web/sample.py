@@ -2,15 +2,12 @@
 
 from __future__ import annotations
 
-import struct
 import sys
 from collections.abc import Iterator
 from pathlib import Path
 
 sys.path.insert(0, str(Path(__file__).resolve().parents[2] / "tools"))
-from gomtasil import sample, shelf, xrit  # noqa: E402
-
-BODY_LENGTH = struct.Struct(">H")
+from gomtasil import sample, shelf  # noqa: E402
 
 
 def files() -> Iterator[tuple[int, int, bytes]]:
@@ -22,17 +19,7 @@ def files() -> Iterator[tuple[int, int, bytes]]:
     yield from found
 
 
-def item(number: int, channel: int, application: int, proper: bytes) -> bytes:
-    """A file as it stands on a shelf, in the packets in which it is sent."""
-    content = xrit.TRANSPORT.pack(number, 8 * len(proper)) + proper
-    bodies = [content[at : at + sample.BODY_BYTES] for at in range(0, len(content), sample.BODY_BYTES)]
-    fields = shelf.FIELDS.pack(channel, application, len(bodies), len(content)) + shelf.ORIGIN.pack(0, 0, 0)
-    lengths = b"".join(BODY_LENGTH.pack(len(it)) for it in bodies)
-    before = bytes([shelf.FILE]) + fields + lengths + content
-    return before + shelf.checksum(before).to_bytes(shelf.CHECKSUM_BYTES, "big")
-
-
 def sample_shelf() -> tuple[bytes, int]:
     """The bytes of the shelf, and how many files it has."""
-    items = [item(number, *it) for number, it in enumerate(files())]
+    items = [shelf.item_of(*whose, sample.bodies_of(number, it)) for number, (*whose, it) in enumerate(files())]
     return shelf.shelf_of(items), len(items)

@@ -1,6 +1,4 @@
-"""The commands and their words. Each module does its work; what a command needs is read when it is called."""
-
-from __future__ import annotations
+"""The commands and their words. What is said of a command is what its module says of itself."""
 
 import argparse
 import functools
@@ -8,9 +6,12 @@ import os
 import re
 import sys
 from collections.abc import Callable
-from typing import Any, NamedTuple
+from types import ModuleType
+from typing import Any, TypeVar
 
-from . import program
+from . import colours, contents, follow, geo, images, overlay, page, pictures, plain, program, quality, sample, serve
+from . import station, which
+from .folder import Folder, Template, safe, write_whole
 from .shelf import ShelfError
 
 MOST_NUMBER = 10**6
@@ -32,121 +33,10 @@ standard error. 2: the words are wrong. 128 and the signal's number: a signal en
 """
 SHELF_OR_FOLDER = "a shelf's file, or a folder: then each NAME.shelf in it"
 
-
-class Text(NamedTuple):
-    """What is said of a command."""
-
-    help: str  # in a line
-    description: str
-    example: str
-
-
-TEXTS = {
-    "follow": Text(
-        "take each file off a shelf once, as it was sent",
-        """\
-Takes each file off a shelf once, as it comes, and prints its number and its name. With --watch it goes on until a
-signal ends it.
-
-A file comes as DAY/LABEL-NUMBER-ANNOTATION: the day (UTC) on which it was taken, the shelf's name (with -2, -3 and so
-on where shelves of one name are different ones), the number, and the name that the file brings, in which every
-character but letters, digits, dots, hyphens and underscores becomes an underscore. Files whose checksum is wrong are
-left out, with a word, and so are discarded ones. A file that is discarded after it was taken moves into
-FOLDER/discarded. What was taken is kept in FOLDER/.follow; where that is removed all is taken again.""",
-        "gomtasil follow /srv/station files --watch --only 'OR_ABI*C13*'",
-    ),
-    "contents": Text(
-        "take what is inside each file, as people open it",
-        """\
-Takes what is inside each file off a shelf, as `follow` takes files, with the same options. A text becomes a .txt in
-UTF-8, without its binary header; JPEG, GIF and PNG become files of that ending, other images a .png. A zip with one
-file becomes this file, one with more a folder; one that has more than 256 files, more than 64 MiB when unpacked, or
-more than 200 times its own size, or that can't be read, stays a .zip. Other data becomes a .bin, and what can't be
-opened the whole file, as .lrit. What was taken is kept in FOLDER/.contents.""",
-        "gomtasil contents /srv/station contents --watch --keep-days 7",
-    ),
-    "pictures": Text(
-        "draw each image of a shelf, its segments put together",
-        """\
-Draws each image as STAMP-NAME@SHELF.N.png; JPEG, GIF and PNG stay as they were sent. Segments of one image are put
-together by any of three forms of record, and strips of JPEG are too. Where segments are missing their places are black
-and -lacks-COUNT follows, and where packets of a file were missing -mended-COUNT, until a later run has more of them.
-What stands there already is left as it is. The newest picture of each kind is latest/KIND.png too.""",
-        "gomtasil pictures my.shelf pictures --enhance '*C13*=ir'",
-    ),
-    "page": Text(
-        "write a page of pictures, bulletins and the reception",
-        """\
-Writes FOLDER/index.html, with pictures in FOLDER/pictures, about a shelf or about all shelves of a station's folder:
-the newest picture of each kind and older ones, bulletins in groups, how it goes, how well it came, and what is missing.
-The page needs no network and no script, and loads itself anew. Pictures that it doesn't name any more are removed.""",
-        "gomtasil page /srv/station /srv/station/page --rate 927000",
-    ),
-    "geo": Text(
-        "write an image as a GeoTIFF",
-        """\
-Writes the image to which file N belongs, its segments put together, as a GeoTIFF, placed by its navigation record. That
-has to name the projection GEOS with the longitude below the satellite, as geos(-75.2). Pixels stay as they are: 8 bits,
-or 16 where they have more.""",
-        "gomtasil geo my.shelf 1 earth.tif",
-    ),
-    "plain": Text(
-        "write an image as a plain xRIT file",
-        """\
-Writes the mission file N with its image not coded, for readers that don't decode lines that are coded without loss, as
-satpy. A file that isn't coded is written as it is.""",
-        "gomtasil plain my.shelf 5 OR_ABI_C13_0.lrit",
-    ),
-    "overlay": Text(
-        "write an image with coasts and borders over it",
-        """\
-Writes the image to which file N belongs as a PNG, with coasts and borders by its navigation record. The lines come from
-GMT (apt-get install gmt gmt-gshhg-low), or from a file of the same form.""",
-        "gomtasil overlay my.shelf 1 earth.png",
-    ),
-    "which": Text(
-        "tell which line code a recording has",
-        """\
-Tries the four line codes over the first 4,000,000 bytes of a recording, and where none locks over as many from its
-middle. The last line has the options to give to `receive`. Where it has another form, what it looks like is told, and a
-line that leads it to soft symbols. Status 0: one locks. 1: none does.""",
-        "gomtasil which recording.soft",
-    ),
-    "state": Text(
-        "tell whether a station is well",
-        """\
-Prints a line for each folder of shelves. These are troubles: no file for --minutes, more than --lost per cent of the
-last minute's frames lost, no frame restored, no word of the quality for 5 minutes, and the disk or the newest shelf
-full by more than --full per cent. The quality is that of station.sh, in FOLDER/quality; where that isn't there nothing
-is said of it. Shelves that another process has locked stay, and so does the newest one. Status 0: all is well. 1: there
-is a trouble; with --once only where one is new, and once a day.""",
-        "gomtasil state --once --keep-free 10 /srv/station",
-    ),
-    "quality": Text(
-        "tell how well a reception goes, a line a minute",
-        """\
-Reads the lines of `decode`, or those of `frames`, and prints for each minute its number, the frames that began in it,
-how many of them were lost, and the corrected bytes of a restored frame (of at most 64 that can be). Of frames a loss is
-a step of a channel's counter. Where no line comes for a minute it says so. Status 1: no frame is restored.""",
-        "lritstation - decode < recording.soft | gomtasil quality --rate 927000",
-    ),
-    "sample": Text(
-        "draw some minutes of a downlink",
-        """\
-Draws some minutes of a downlink like that of GOES, as frames of 892 bytes on standard output: an earth in four
-segments, a bulletin, another one in a zip, and fill between. Nothing of it comes from a satellite.""",
-        "gomtasil sample > frames; lritstation my.shelf receive --input frames < frames",
-    ),
-}
-
+Value = TypeVar("Value")
 Words = argparse.Namespace
-
-
-class Form(argparse.RawDescriptionHelpFormatter):
-    """A help of 100 columns, wherever it is printed."""
-
-    def __init__(self, prog: str):
-        super().__init__(prog, max_help_position=30, width=100)
+# (a help has 100 columns wherever it is printed)
+Form = functools.partial(argparse.RawDescriptionHelpFormatter, max_help_position=30, width=100)
 
 
 class Parser(argparse.ArgumentParser):
@@ -168,11 +58,9 @@ class Parser(argparse.ArgumentParser):
 # ---- values of options
 
 
-def number(text: str, least: int = 0, most: int | None = None) -> int:
-    if not (text.isascii() and text.isdecimal()):
-        raise argparse.ArgumentTypeError(f"{text} is no number")
-    if int(text) < least or (most is not None and int(text) > most):
-        raise argparse.ArgumentTypeError(f"{text} isn't from {least} to {most}")
+def number(text: str, least: int = 0, most: int = 2**32) -> int:
+    if not (text.isascii() and text.isdecimal() and least <= int(text) <= most):
+        raise argparse.ArgumentTypeError(f"{text} is no number from {least} to {most}")
     return int(text)
 
 
@@ -181,152 +69,94 @@ rate = functools.partial(number, least=1, most=MOST_RATE)
 percent = functools.partial(number, most=100)
 
 
-def template(text: str):  # type: ignore[no-untyped-def]
-    from .folder import Template
+def value(make: Callable[[str], Value]) -> Callable[[str], Value]:
+    """The value that is made of a text; where it can't be, the parser says why."""
 
-    try:
-        return Template(text)
-    except ValueError as fault:
-        raise argparse.ArgumentTypeError(str(fault)) from None
+    def made(text: str) -> Value:
+        try:
+            return make(text)
+        except ValueError as fault:
+            raise argparse.ArgumentTypeError(str(fault)) from None
 
-
-def enhancement(text: str):  # type: ignore[no-untyped-def]
-    from . import colours, pictures
-
-    pattern, _, table = text.rpartition("=")
-    if not pattern or table not in colours.TABLES:
-        raise argparse.ArgumentTypeError(f"it is PATTERN=TABLE, and the tables are {', '.join(colours.TABLES)}")
-    return pictures.Enhancement(pattern, table)
-
-
-def address(text: str) -> tuple[str, int]:
-    from . import serve
-
-    try:
-        return serve.address_of(text)
-    except ValueError as fault:
-        raise argparse.ArgumentTypeError(str(fault)) from None
+    return made
 
 
 # ---- what each command does
 
 
-def follow(words: Words) -> int:
-    from . import follow as module
-
-    return taken(words, ".follow", module.whole_file)
+def do_follow(words: Words) -> int:
+    return taken(words, ".follow", follow.whole_file)
 
 
-def contents(words: Words) -> int:
-    from . import contents as module
-    from . import images
-
+def do_contents(words: Words) -> int:
     images.pillow()
-    return taken(words, ".contents", module.product_of)
+    return taken(words, ".contents", contents.product_of)
 
 
-def taken(words: Words, state: str, product_of) -> int:  # type: ignore[no-untyped-def]
-    from . import follow as module
-    from .folder import Folder, safe
-
+def taken(words: Words, state: str, product_of: follow.ProductOf) -> int:
     prefix = f"{safe(words.label)}-" if words.label else ""
-    applications = tuple(words.application or ())
-    run, only = tuple(words.run or ()), tuple(words.only or ())
-    wishes = module.Wishes(product_of, only, applications, prefix, run, words.keep_days)
+    wishes = follow.Wishes(product_of, words.only, words.application, prefix, words.run, words.keep_days)
     program.hold_signals()
-    return module.run(words.shelf, Folder(words.folder, state, words.flat, words.name), wishes, words.watch)
+    return follow.run(words.shelf, Folder(words.folder, state, words.flat, words.name), wishes, words.watch)
 
 
-def pictures(words: Words) -> int:
-    from . import images
-    from . import pictures as module
-
+def do_pictures(words: Words) -> int:
     images.pillow()
-    program.end_by_signals()
-    colour = (words.false_colour[0], words.false_colour[1]) if words.false_colour else None
-    wishes = module.Wishes(tuple(words.only or ()), tuple(words.enhance or ()), colour, not words.no_latest)
-    return module.draw(words.shelf, words.folder, wishes)
+    wishes = pictures.Wishes(tuple(words.only), tuple(words.enhance), words.false_colour, not words.no_latest)
+    return pictures.draw(words.shelf, words.folder, wishes)
 
 
-def page(words: Words) -> int:
-    from . import images
-    from . import page as module
-
+def do_page(words: Words) -> int:
     images.pillow()
-    module.jinja()
-    wishes = module.Wishes(words.newest, words.log, words.rate, words.every)
+    page.jinja()
+    wishes = page.Wishes(words.newest, words.log, words.rate, words.every)
+    write = functools.partial(page.write_page, words.shelf, words.folder, wishes)
     if words.serve is None:
-        program.end_by_signals()
-        module.write_page(words.shelf, words.folder, wishes)
+        write()
         return 0
-    from . import serve
-
     program.hold_signals()
-    module.write_page(words.shelf, words.folder, wishes)
-    return serve.serve(
-        words.serve, words.folder, lambda: module.write_page(words.shelf, words.folder, wishes), words.every
-    )
+    write()
+    return serve.serve(words.serve, words.folder, write, words.every)
 
 
-def written(words: Words, make: Callable[[], bytes]) -> int:
-    """Writes what is made into the file that the words name."""
-    from .folder import write_whole
-
-    program.end_by_signals()
-    write_whole(words.file, make())
+def written(file: str, make: Callable[..., bytes], *words: object) -> int:
+    """Writes what is made of these words into a file."""
+    write_whole(file, make(*words))
     return 0
 
 
-def geo(words: Words) -> int:
-    from . import geo as module
-
-    return written(words, lambda: module.geo(words.shelf, words.n, words.alone))
-
-
-def plain(words: Words) -> int:
-    from . import plain as module
-
-    return written(words, lambda: module.plain(words.shelf, words.n))
-
-
-def overlay(words: Words) -> int:
-    from . import images
-    from . import overlay as module
-
+def do_geo(words: Words) -> int:
     images.pillow()
-    return written(words, lambda: module.overlay(words.shelf, words.n, words.lines, words.resolution, words.width))
+    return written(words.file, geo.geo, words.shelf, words.n, words.alone)
 
 
-def which(words: Words) -> int:
-    from . import which as module
+def do_plain(words: Words) -> int:
+    return written(words.file, plain.plain, words.shelf, words.n)
 
+
+def do_overlay(words: Words) -> int:
+    images.pillow()
+    return written(words.file, overlay.overlay, words.shelf, words.n, words.lines, words.resolution, words.width)
+
+
+def do_which(words: Words) -> int:
     if not os.path.isfile(words.recording):
         program.tell(f"{words.recording} is no file")
         return 2
-    program.end_by_signals()
-    return module.which(words.recording)
+    return which.which(words.recording)
 
 
-def state(words: Words) -> int:
-    from . import station as module
-
-    program.end_by_signals()
-    bounds = module.Bounds(words.minutes, words.lost, words.full, words.remove, words.keep_free)
-    return module.watch(words.folder, bounds, words.prometheus, words.once)
+def do_state(words: Words) -> int:
+    bounds = station.Bounds(words.minutes, words.lost, words.full, words.remove, words.keep_free)
+    return station.watch(words.folder, bounds, words.prometheus, words.once)
 
 
-def quality(words: Words) -> int:
-    from . import quality as module
-
-    program.end_by_signals()
-    return module.quality(words.rate, words.keep, words.pause)
+def do_quality(words: Words) -> int:
+    return quality.quality(words.rate, words.keep, words.pause)
 
 
-def sample(words: Words) -> int:
-    from . import sample as module
-
-    program.end_by_signals()
-    for frame in module.downlink(words.minutes):
+def do_sample(words: Words) -> int:
+    for frame in sample.downlink(words.minutes):
         sys.stdout.buffer.write(frame)
     return 0
 
@@ -355,28 +185,19 @@ def parser() -> argparse.ArgumentParser:
     top.add_argument("--version", action="version", version=f"Gomtasil {version()}")
     commands = top.add_subparsers(metavar="COMMAND", required=True, parser_class=Parser)
 
-    def command(do: Callable[[Words], int]) -> argparse.ArgumentParser:
-        help_, text, example = TEXTS[do.__name__]
-        it = commands.add_parser(
-            do.__name__,
-            help=help_,
-            description=text,
-            epilog=f"example:\n  {example}",
-            formatter_class=Form,
-            allow_abbrev=False,
-        )
+    def command(do: Callable[[Words], int], module: ModuleType, help_: str, example: str) -> argparse.ArgumentParser:
+        name, epilog = do.__name__.removeprefix("do_"), f"example:\n  {example}"
+        it = commands.add_parser(name, help=help_, description=module.__doc__, epilog=epilog, formatter_class=Form)
+        it.allow_abbrev = False
         it.set_defaults(do=do)
         return it
 
-    add_takers(command)
-    add_pictures(command)
-    add_page(command)
-    add_images(command)
-    add_station(command)
+    for adds in (add_takers, add_pictures, add_page, add_images, add_station, add_streams):
+        adds(command)
     return top
 
 
-Command = Callable[[Callable[[Words], int]], argparse.ArgumentParser]
+Command = Callable[[Callable[[Words], int], ModuleType, str, str], argparse.ArgumentParser]
 
 
 def add(it: argparse.ArgumentParser, words: str, help_: str, **more: Any) -> None:
@@ -386,70 +207,84 @@ def add(it: argparse.ArgumentParser, words: str, help_: str, **more: Any) -> Non
         more["metavar"] = value
     elif "metavar" not in more:
         more["action"] = "store_true"
+    if more.get("action") == "append":
+        more["default"] = []
     it.add_argument(name, help=help_, **more)
 
 
 def add_takers(command: Command) -> None:
-    for it in (command(follow), command(contents)):
+    only = "gomtasil follow /srv/station files --watch --only 'OR_ABI*C13*'"
+    keep = "gomtasil contents /srv/station contents --watch --keep-days 7"
+    sent = command(do_follow, follow, "take each file off a shelf once, as it was sent", only)
+    opened = command(do_contents, contents, "take what is inside each file, as people open it", keep)
+    for it in (sent, opened):
         it.usage = f"{it.prog} [OPTIONS] SHELF FOLDER [--run WORD ...]"
         add(it, "shelf SHELF", SHELF_OR_FOLDER)
         add(it, "folder FOLDER", "where files come into")
         add(it, "--watch", "go on, and take each file as it comes")
         add(it, "--flat", "names are the annotation alone; the number goes in front of one that is taken")
         places = "{day} {label} {number} {channel} {application} {annotation} {stamp}"
-        add(it, "--name TEMPLATE", f"names of {places}; each part becomes safe", type=template)
+        add(it, "--name TEMPLATE", f"names of {places}; each part becomes safe", type=value(Template))
         only = "take files whose safe annotation fits, as OR_ABI*; may come again"
         add(it, "--only PATTERN", only, action="append")
         add(it, "--application N", "take files of this application; may come again", type=number, action="append")
         add(it, "--label WORD", "put this in front of the label, as for a second receiver")
         add(it, "--keep-days N", "remove folders of days that are older than N days", type=count)
         run = "the last option: run this for each file that stands whole, with its path for {}, or at the end"
-        add(it, "--run WORD", run, nargs=argparse.REMAINDER)
+        add(it, "--run WORD", run, nargs=argparse.REMAINDER, default=[])
 
 
 def add_pictures(command: Command) -> None:
-    it = command(pictures)
+    example = "gomtasil pictures my.shelf pictures --enhance '*C13*=ir'"
+    it = command(do_pictures, pictures, "draw each image of a shelf, its segments put together", example)
     add(it, "shelf SHELF", SHELF_OR_FOLDER)
     add(it, "folder FOLDER", "where pictures come into")
     add(it, "--only PATTERN", "draw images whose safe annotation fits; may come again", action="append")
-    coloured = "draw these in colours too: TABLE is ir, wv or heat"
-    add(it, "--enhance PATTERN=TABLE", coloured, type=enhancement, action="append")
+    tables = " or ".join(colours.TABLES)
+    coloured = f"draw these in colours too: TABLE is {tables}"
+    add(it, "--enhance PATTERN=TABLE", coloured, type=value(pictures.Enhancement.of), action="append")
     false_colour = "draw false colours of two images of one minute, by their patterns"
     add(it, "--false-colour", false_colour, metavar=("VISIBLE", "INFRARED"), nargs=2)
     add(it, "--no-latest", "make no folder `latest`")
 
 
 def add_page(command: Command) -> None:
-    it = command(page)
+    example = "gomtasil page /srv/station /srv/station/page --rate 927000"
+    it = command(do_page, page, "write a page of pictures, bulletins and the reception", example)
     add(it, "shelf SHELF", SHELF_OR_FOLDER)
     add(it, "folder FOLDER", "where the page comes into")
     newest = "show the newest N images and N other files (200), and the newest of each application"
-    add(it, "--newest N", newest, type=count, default=200)
+    add(it, "--newest N", newest, type=count, default=page.NEWEST)
     add(it, "--rate SYMBOLS", "symbols a second, by which the page tells when a file came", type=rate)
     add(it, "--log FILE", "a file with the lines of a reception, for the frames that were lost")
     served = "serve the page until a signal comes (127.0.0.1:8000), and nothing else"
-    add(it, "--serve ADDRESS:PORT", served, type=address, nargs="?", const=("127.0.0.1", 8000))
+    add(it, "--serve ADDRESS:PORT", served, type=value(serve.address_of), nargs="?", const=serve.address_of(""))
     every = "how often the page is loaded anew, and written anew where it is served (300)"
     add(it, "--every SECONDS", every, type=count, default=300)
 
 
 def add_images(command: Command) -> None:
-    for do in (geo, plain, overlay):
-        it = command(do)
+    tiff = command(do_geo, geo, "write an image as a GeoTIFF", "gomtasil geo my.shelf 1 earth.tif")
+    example = "gomtasil plain my.shelf 5 OR_ABI_C13_0.lrit"
+    xrit = command(do_plain, plain, "write an image as a plain xRIT file", example)
+    example = "gomtasil overlay my.shelf 1 earth.png"
+    png = command(do_overlay, overlay, "write an image with coasts and borders over it", example)
+    for it in (tiff, xrit, png):
         add(it, "shelf SHELF", "a shelf's file")
         add(it, "n N", "the number of a file there", type=number)
         add(it, "file FILE", "what is written")
-        if do is geo:
-            add(it, "--alone", "of a segment take the file alone")
-    add(it, "--lines FILE", "lines of a longitude and a latitude; one that begins with > between polygons")
+    add(tiff, "--alone", "of a segment take the file alone")
+    add(png, "--lines FILE", "lines of a longitude and a latitude; one that begins with > between polygons")
     resolution = "that of GMT's coasts, from crude to full (l)"
-    it.add_argument("--resolution", choices=list("clihf"), default="l", help=resolution)
-    add(it, "--width PIXELS", "of the lines (1)", type=count, default=1)
+    png.add_argument("--resolution", choices=list("clihf"), default="l", help=resolution)
+    add(png, "--width PIXELS", "of the lines (1)", type=count, default=1)
 
 
 def add_station(command: Command) -> None:
-    add(command(which), "recording RECORDING", "a file of soft symbols")
-    it = command(state)
+    it = command(do_which, which, "tell which line code a recording has", "gomtasil which recording.soft")
+    add(it, "recording RECORDING", "a file of soft symbols")
+    example = "gomtasil state --once --keep-free 10 /srv/station"
+    it = command(do_state, station, "tell whether a station is well", example)
     add(it, "folder FOLDER", "a folder of shelves", nargs="+")
     add(it, "--minutes M", "without a file (30)", type=number, default=30)
     add(it, "--lost PERCENT", "of frames (5)", type=percent, default=5)
@@ -458,22 +293,28 @@ def add_station(command: Command) -> None:
     add(it, "--keep-free PERCENT", "remove the oldest shelves until so much of the disk is free", type=percent)
     add(it, "--prometheus FILE", "write the same, and what came in all, as text for Prometheus")
     add(it, "--once", "a trouble ends with 1 when it is new, and then once a day")
-    it = command(quality)
+
+
+def add_streams(command: Command) -> None:
+    example = "lritstation - decode < recording.soft | gomtasil quality --rate 927000"
+    it = command(do_quality, quality, "tell how well a reception goes, a line a minute", example)
     add(it, "--rate SYMBOLS", "symbols a second", type=rate, required=True)
     add(it, "--keep FOLDER", "keep the last line in FOLDER/quality, and the minutes in FOLDER/minutes")
     add(it, "--pause SECONDS", "after which it says that no frame came (60)", type=float, default=60)
-    sampled = {"type": number, "nargs": "?", "choices": range(1, 61), "default": 2}
-    add(command(sample), "minutes MINUTES", "1 to 60 (2)", **sampled)
+    example = "gomtasil sample > frames; lritstation my.shelf receive --input frames < frames"
+    it = command(do_sample, sample, "draw some minutes of a downlink", example)
+    minutes = functools.partial(number, least=1, most=sample.MOST_MINUTES)
+    add(it, "minutes MINUTES", "1 to 60 (2)", type=minutes, nargs="?", default=2)
 
 
 def main() -> int:
     words = parser().parse_args()
+    program.end_by_signals()
     try:
         return int(words.do(words))
     except BrokenPipeError:
         os.dup2(os.open(os.devnull, os.O_WRONLY), sys.stdout.fileno())
     except (OSError, ShelfError, program.Missing) as fault:
-        program.tell(
-            f"{fault.filename!r}: {fault.strerror}" if isinstance(fault, OSError) and fault.filename else fault
-        )
+        where = f"{fault.filename!r}: " if isinstance(fault, OSError) and fault.filename else ""
+        program.tell(where + program.reason(fault))
     return 1

@@ -1,7 +1,5 @@
 """Folders that files come into: safe names, parts, and names that are given to whole files alone."""
 
-from __future__ import annotations
-
 import fnmatch
 import itertools
 import json
@@ -40,7 +38,7 @@ def safe(name: bytes | str) -> str:
 
 def annotation_of(file: StoredFile) -> str:
     """The safe name that a file's annotation record gives it, or nothing."""
-    return safe(file.header.annotation) if file.header else ""
+    return safe(file.header.annotation)
 
 
 def fits(file: StoredFile, patterns: Iterable[str]) -> bool:
@@ -75,6 +73,20 @@ def write_whole(path: str, data: bytes) -> None:
         raise
 
 
+def read_kept(path: str, value_of: Callable[[Any], Value]) -> Value | None:
+    """What is made of what a file of JSON keeps; None where it isn't there, or has something else."""
+    try:
+        with open(path, encoding="utf-8") as it:
+            return value_of(json.load(it))
+    except (OSError, ValueError, KeyError, TypeError, AttributeError):
+        return None
+
+
+def write_kept(path: str, value: object) -> None:
+    os.makedirs(os.path.dirname(path), exist_ok=True)
+    write_whole(path, json.dumps(value).encode())
+
+
 # ---- notes of what was made of a shelf
 
 
@@ -89,16 +101,10 @@ class Note:
 
     def read(self, value_of: Callable[[Any], Value]) -> Value | None:
         """What is made of the value that is kept; None where that is of another shelf, or can't be read."""
-        try:
-            with open(self.path, encoding="utf-8") as it:
-                kept = json.load(it)
-            return value_of(kept["value"]) if kept["identity"] == self.identity else None
-        except (OSError, ValueError, KeyError, TypeError):
-            return None
+        return read_kept(self.path, lambda it: value_of(it["value"]) if it["identity"] == self.identity else None)
 
     def write(self, value: object) -> None:
-        os.makedirs(os.path.dirname(self.path), exist_ok=True)
-        write_whole(self.path, json.dumps({"identity": self.identity, "value": value}).encode())
+        write_kept(self.path, {"identity": self.identity, "value": value})
 
 
 # ---- names that files get
@@ -121,7 +127,7 @@ class Template:
             "channel": str(file.fields.channel),
             "application": str(file.fields.application),
             "annotation": annotation or "file",
-            "stamp": f"{file.stamp:{STAMP_FORM}}" if file.stamp else "unstamped",
+            "stamp": file.header.stamped(STAMP_FORM) or "unstamped",
         }
         return "/".join(safe(part.format(**values)) or "_" for part in self.text.split("/"))
 

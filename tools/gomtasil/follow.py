@@ -1,12 +1,17 @@
-"""Takes each file off a shelf once, as it comes, also beside a receiver that writes to the shelf."""
+"""Takes each file off a shelf once, as it comes, and prints its number and its name. With --watch it goes on until a
+signal ends it.
 
-from __future__ import annotations
+A file comes as DAY/LABEL-NUMBER-ANNOTATION: the day (UTC) on which it was taken, the shelf's name (with -2, -3 and so
+on where shelves of one name are different ones), the number, and the name that the file brings, in which every
+character but letters, digits, dots, hyphens and underscores becomes an underscore. Files whose checksum is wrong are
+left out, with a word, and so are discarded ones. A file that is discarded after it was taken moves into
+FOLDER/discarded. What was taken is kept in FOLDER/.follow; where that is removed all is taken again.
+"""
 
 import os
 import subprocess
-import sys
 import time
-from collections.abc import Callable, Iterable, Iterator
+from collections.abc import Callable, Iterable, Iterator, Sequence
 from dataclasses import dataclass
 
 from . import folder as folders
@@ -31,10 +36,10 @@ class Wishes:
     """Which files are taken, and what is done with them."""
 
     product_of: ProductOf = whole_file
-    patterns: tuple[str, ...] = ()  # of annotations; where there is none, all files
-    applications: tuple[int, ...] = ()
+    patterns: Sequence[str] = ()  # of annotations; where there is none, all files
+    applications: Sequence[int] = ()
     prefix: str = ""  # of the label
-    command: tuple[str, ...] = ()  # that is run for each file; {} stands for its path
+    command: Sequence[str] = ()  # that is run for each file; {} stands for its path
     keep_days: int | None = None  # after which the folder of a day goes
 
     def wants(self, file: StoredFile) -> bool:
@@ -75,12 +80,7 @@ class Follower:
         self.label, self.log = journal.log_of(folder.state, shelf, wishes.prefix)
         self.parts = folders.Parts(os.path.join(folder.state, self.label + ".parts"))
         self.faults = 0
-        self.mark = self.mark_on(shelf)
-
-    def mark_on(self, shelf: Shelf) -> bytes:
-        """Some bytes of the last item that was taken, by which another shelf in the same place is known."""
-        last = self.log.end_of()
-        return shelf.mark(last) if last else b""
+        self.mark = self.log.mark_on(shelf)
 
     def close(self) -> None:
         self.parts.keep(self.log.noted)
@@ -108,7 +108,7 @@ class Follower:
                 self.discard(shelf, batch[0])
             else:
                 self.take(shelf, batch, gone)
-        self.mark = self.mark_on(shelf)
+        self.mark = self.log.mark_on(shelf)
         # (where the items break off, this raises the fault)
         next(self.heads(shelf), None)
 
@@ -220,7 +220,12 @@ class Station:
             self.followers.pop(path).close()
         for path in paths:
             try:
-                self.look_at(path)
+                with Shelf(path) as shelf:
+                    follower = self.follower_of(shelf)
+                    try:
+                        follower.take_all(shelf)
+                    finally:
+                        self.failed = self.failed or follower.faults > 0
                 self.told.pop(path, None)
             except BrokenPipeError:
                 raise
@@ -236,18 +241,10 @@ class Station:
             for name in self.folder.remove_days(self.wishes.keep_days):
                 program.tell(f"removed {self.folder.full(name)}")
 
-    def look_at(self, path: str) -> None:
-        with Shelf(path) as shelf:
-            follower = self.follower_of(shelf)
-            try:
-                follower.take_all(shelf)
-            finally:
-                self.failed = self.failed or follower.faults > 0
-
     def follower_of(self, shelf: Shelf) -> Follower:
         """The follower of a shelf; a new one where another shelf has come to stand at its path."""
         follower = self.followers.get(shelf.path)
-        if follower and follower.mark != follower.mark_on(shelf):
+        if follower and follower.mark != follower.log.mark_on(shelf):
             self.followers.pop(shelf.path).close()
             follower = None
         if not follower:
@@ -272,9 +269,6 @@ def run(path: str, folder: folders.Folder, wishes: Wishes, does_watch: bool) -> 
         station.take_all()
         while does_watch and not program.wait(POLL_SECONDS):
             station.take_all()
-    except BrokenPipeError:
-        os.dup2(os.open(os.devnull, os.O_WRONLY), sys.stdout.fileno())
-        return 1
     finally:
         station.close()
     ended_by = program.pending_signal()

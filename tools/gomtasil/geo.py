@@ -1,12 +1,12 @@
-"""Where the pixels of an image lie: its navigation record, the GEOS projection of CGMS 03 (section 4.4.3.2), and the
-GeoTIFF of TIFF 6.0 and GeoTIFF 1.0."""
+"""Writes the image to which file N belongs, its segments put together, as a GeoTIFF, placed by its navigation record.
+That has to name the projection GEOS with the longitude below the satellite, as geos(-75.2). Pixels stay as they are: 8
+bits, or 16 where they have more.
+"""
 
-from __future__ import annotations
+# The projection is that of CGMS 03 (section 4.4.3.2), and the file that of TIFF 6.0 and GeoTIFF 1.0.
 
 import math
 import re
-import struct
-import zlib
 from typing import NamedTuple
 
 from . import images, segments, xrit
@@ -21,15 +21,8 @@ DISTANCE = HEIGHT + EQUATOR_RADIUS  # of the satellite from the centre
 FLATNESS = (POLE_RADIUS / EQUATOR_RADIUS) ** 2
 FACTOR_ONE = 65536  # a factor of this size is one pixel a degree
 
-# ---- TIFF and GeoTIFF
-HEAD = struct.Struct(">2sHI")
-ENTRY = struct.Struct(">HHI4s")
-SHORT, LONG, ASCII, DOUBLE = 3, 4, 2, 12
-FORMATS = {SHORT: "H", LONG: "I", DOUBLE: "d"}
-WIDTH, LENGTH, BITS, COMPRESSION, PHOTOMETRIC = 256, 257, 258, 259, 262
-STRIPS, SAMPLES, ROWS, COUNTS = 273, 277, 278, 279
+# ---- the tags of GeoTIFF, and what their keys say
 PIXEL_SCALE, TIE_POINT, GEO_KEYS, GEO_TEXTS = 33550, 33922, 34735, 34737
-DEFLATE, BLACK_IS_ZERO = 8, 1
 MODEL_TYPE, RASTER_TYPE, PROJECTED_CITATION, LINEAR_UNIT = 1024, 1025, 3073, 3076
 USER_DEFINED, PIXEL_IS_AREA, METRE = 32767, 1, 9001
 
@@ -43,23 +36,6 @@ class Placement(NamedTuple):
     column_offset: int
     line_offset: int
     first_line: int  # lines of the whole image before those of this one
-
-    @property
-    def column_metres(self) -> float:
-        return HEIGHT * math.radians(FACTOR_ONE / self.column_factor)
-
-    @property
-    def line_metres(self) -> float:
-        return HEIGHT * math.radians(FACTOR_ONE / self.line_factor)
-
-    @property
-    def left(self) -> float:
-        # the upper left pixel is column 1 and begins at 0.5
-        return (0.5 - self.column_offset) * self.column_metres
-
-    @property
-    def top(self) -> float:
-        return (self.line_offset - self.first_line - 0.5) * self.line_metres
 
     def pixel_of(self, longitude: float, latitude: float) -> tuple[float, float] | None:
         """The column and line, counted from 0 at the middle of the first pixel, at which a place on the ellipsoid is
@@ -81,10 +57,10 @@ class Placement(NamedTuple):
         return column, line
 
 
-def placement_of(header: xrit.Header | None, is_whole: bool = False) -> Placement:
+def placement_of(header: xrit.Header, is_whole: bool = False) -> Placement:
     """Where an image lies, or the whole one of which it is a segment. ShelfError where its header doesn't say it."""
-    found = header.navigation if header else None
-    if not header or not found:
+    found = header.navigation
+    if not found:
         raise ShelfError("the file has no navigation record")
     match = re.fullmatch(rb"GEOS\(([-+]?\d{1,3}(?:\.\d+)?)\)", found.name.strip(b"\0 "), re.IGNORECASE)
     if not match:
@@ -100,34 +76,29 @@ def is_counted_within(header: xrit.Header) -> bool:
     return len(header.first(xrit.SEGMENT_KIND) or b"") == segments.PLANNED.size
 
 
-def whole_image(shelf: Shelf, number: int) -> tuple[Picture, Placement, segments.Group]:
-    """The image to which a file belongs, its segments put together, and where it lies. ShelfError where it can't be
-    had."""
+def placed_image(shelf: Shelf, number: int, is_alone: bool = False) -> tuple[Picture, Placement]:
+    """The image to which a file belongs, its segments put together, or that of the file alone, and where it lies.
+    ShelfError where it can't be had."""
     file = shelf.file(number)
     group = group_with(shelf, file)
-    first = min(group.parts, key=lambda part: part.segment.number if part.segment else 0)
-    leading = shelf.load(first.head) or file
-    picture = images.group_picture(shelf, group)
+    picture = images.picture_of(file) if is_alone else images.group_picture(shelf, group)
     if picture is None:
         raise ShelfError(f"file {number} has no image that can be had here")
-    header = leading.header
-    if header and first.segment and is_counted_within(header):
-        # (such an offset counts from the segment's first line, which is that of the whole image where it is the first
-        # one)
-        lines = header.structure.lines if header.structure else 0
-        placed = placement_of(header, True)
-        return picture, placed._replace(line_offset=placed.line_offset + first.segment.number * lines), group
-    return picture, placement_of(header, bool(group.segments)), group
+    if is_alone:
+        return picture, placement_of(file.header)
+    first = min(group.parts, key=lambda part: part.segment.number if part.segment else 0)
+    header = (shelf.load(first.head) or file).header
+    placement = placement_of(header, bool(group.segments))
+    if first.segment and header.structure and is_counted_within(header):
+        # (such an offset counts from the segment's first line, and the whole image's first one is above that)
+        below = first.segment.number * header.structure.lines
+        placement = placement._replace(line_offset=placement.line_offset + below)
+    return picture, placement
 
 
 def group_with(shelf: Shelf, file: StoredFile) -> segments.Group:
     """The group of files in which this one is."""
-    wanted = segments.segment_of(file)
-    heads = (
-        [it.head for it in shelf.fronts(gone=shelf.gone()) if it.file_type == xrit.IMAGE_TYPE]
-        if wanted
-        else [file.head]
-    )
+    heads = shelf.images() if segments.segment_of(file) else [file.head]
     groups = [it for it in segments.groups_of(shelf, heads) if isinstance(it, segments.Group)]
     found = [it for it in groups if file.number in it.numbers]
     if not found:  # (a mended segment in whose place a whole one has come)
@@ -151,67 +122,30 @@ def projection_of(longitude: float) -> str:
     )
 
 
-def geo_keys(text: str) -> tuple[list[int], str]:
-    """The directory of keys, and the texts that it names."""
+def tiff_of(picture: Picture, placement: Placement) -> bytes:
+    """The bytes of a GeoTIFF."""
+    from PIL import TiffImagePlugin
+
+    text = projection_of(placement.longitude) + "|"
     keys = [
         (MODEL_TYPE, 0, 1, USER_DEFINED),
         (RASTER_TYPE, 0, 1, PIXEL_IS_AREA),
-        (PROJECTED_CITATION, GEO_TEXTS, len(text) + 1, 0),
+        (PROJECTED_CITATION, GEO_TEXTS, len(text), 0),
         (LINEAR_UNIT, 0, 1, METRE),
     ]
-    return [1, 1, 0, len(keys)] + [number for key in keys for number in key], text + "|"
-
-
-def tiff_of(picture: Picture, placement: Placement) -> bytes:
-    """The bytes of a GeoTIFF of one strip, most significant byte first."""
-    keys, texts = geo_keys(projection_of(placement.longitude))
-    strip = zlib.compress(picture.pixels)
-    fields: list[tuple[int, int, list[int] | list[float] | str]] = [
-        (WIDTH, LONG, [picture.columns]),
-        (LENGTH, LONG, [picture.lines]),
-        (BITS, SHORT, [images.BYTE_BITS * picture.width]),
-        (COMPRESSION, SHORT, [DEFLATE]),
-        (PHOTOMETRIC, SHORT, [BLACK_IS_ZERO]),
-        (STRIPS, LONG, [HEAD.size]),
-        (SAMPLES, SHORT, [1]),
-        (ROWS, LONG, [picture.lines]),
-        (COUNTS, LONG, [len(strip)]),
-        (PIXEL_SCALE, DOUBLE, [placement.column_metres, placement.line_metres, 0.0]),
-        (TIE_POINT, DOUBLE, [0.0, 0.0, 0.0, placement.left, placement.top, 0.0]),
-        (GEO_KEYS, SHORT, keys),
-        (GEO_TEXTS, ASCII, texts),
-    ]
-    data = strip + bytes(-len(strip) % 2)
-    return HEAD.pack(b"MM", 42, HEAD.size + len(data)) + data + directory_of(fields, HEAD.size + len(data))
-
-
-def directory_of(fields: list[tuple[int, int, list[int] | list[float] | str]], at: int) -> bytes:
-    """The directory of a TIFF that stands at a place, with the values that don't fit into it after it."""
-    after = at + 2 + ENTRY.size * len(fields) + 4
-    entries, values = b"", b""
-    for tag, kind, numbers in fields:
-        if isinstance(numbers, str):
-            count, value = len(numbers) + 1, numbers.encode("ascii") + b"\0"
-        else:
-            count, value = len(numbers), struct.pack(f">{len(numbers)}{FORMATS[kind]}", *numbers)
-        if len(value) > 4:
-            place = struct.pack(">I", after + len(values))
-            values += value + bytes(len(value) % 2)
-        else:
-            place = value.ljust(4, b"\0")
-        entries += ENTRY.pack(tag, kind, count, place)
-    return struct.pack(">H", len(fields)) + entries + bytes(4) + values
+    factors = placement.column_factor, placement.line_factor
+    width, height = (HEIGHT * math.radians(FACTOR_ONE / it) for it in factors)  # metres
+    # (the upper left pixel is column 1 and begins at 0.5)
+    left, top = 0.5 - placement.column_offset, placement.line_offset - placement.first_line - 0.5
+    tags = TiffImagePlugin.ImageFileDirectory_v2()
+    tags[PIXEL_SCALE] = width, height, 0.0
+    tags[TIE_POINT] = 0.0, 0.0, 0.0, left * width, top * height, 0.0
+    tags[GEO_KEYS] = 1, 1, 0, len(keys), *(number for key in keys for number in key)
+    tags[GEO_TEXTS] = text
+    return images.written(images.plain_image(picture), "TIFF", compression="tiff_adobe_deflate", tiffinfo=tags)
 
 
 def geo(path: str, number: int, is_alone: bool = False) -> bytes:
     """The GeoTIFF of the image to which a file belongs, or of the file alone."""
     with Shelf(path) as shelf:
-        if not is_alone:
-            picture, placement, _ = whole_image(shelf, number)
-            return tiff_of(picture, placement)
-        file = shelf.file(number)
-        placement = placement_of(file.header)
-        alone = images.picture_of(file)
-        if alone is None:
-            raise ShelfError(f"file {number} has no image that can be had here")
-        return tiff_of(alone, placement)
+        return tiff_of(*placed_image(shelf, number, is_alone))

@@ -22,10 +22,9 @@ if TYPE_CHECKING:
 
 BYTE_BITS = 8
 WORD_BITS = 16
-MOST_EXPORTED_PIXELS = 64 * 1024 * 1024  # of an image that the program is asked for
+MOST_PIXELS = 64 * 1024 * 1024  # of a picture that is drawn or read
 MOST_BATCH_BYTES = 128 * 1024 * 1024  # of files that it is asked for at once
 MOST_BATCH_PIXELS = 32 * 1024 * 1024
-MOST_READ_PIXELS = 64 * 1024 * 1024  # of a picture that Pillow reads
 READ_FORMATS = ("JPEG", "GIF", "PNG")
 ROUNDING = 1e-6  # (less than the least step of a scaled value, and more than the error of its product)
 
@@ -49,10 +48,6 @@ class Picture(NamedTuple):
         """The bytes of a pixel."""
         return 1 if self.bits <= BYTE_BITS else 2
 
-    def row(self, line: int) -> bytes:
-        size = self.columns * self.width
-        return self.pixels[line * size : (line + 1) * size]
-
 
 # ---- pixels of a data field
 
@@ -63,23 +58,8 @@ def group_of(bits: int) -> tuple[int, int]:
     return size, size * BYTE_BITS // bits
 
 
-def big_endian(values: array.array[int]) -> bytes:
-    """The bytes of an array of numbers, most significant first."""
-    if values.itemsize > 1 and sys.byteorder == "little":
-        values.byteswap()
-    return values.tobytes()
-
-
-def swapped(pixels: bytes) -> bytes:
-    """Pairs of bytes in the other order."""
-    values = array.array("H", pixels)
-    values.byteswap()
-    return values.tobytes()
-
-
-def words_of(pixels: bytes) -> array.array[int]:
-    """The numbers in pairs of bytes, most significant first."""
-    values = array.array("H", pixels)
+def big_endian(values: array.array[int]) -> array.array[int]:
+    """Numbers whose bytes are to be, or were, the most significant ones first."""
     if sys.byteorder == "little":
         values.byteswap()
     return values
@@ -98,14 +78,14 @@ def unpacked(data: bytes, bits: int, count: int) -> bytes:
     for at in range(0, -(-count // pixels) * size, size):
         group = int.from_bytes(data[at : at + size].ljust(size, b"\0"), "big")
         values.extend([group >> shift & most for shift in shifts])
-    return big_endian(values[:count])
+    return big_endian(values[:count]).tobytes()
 
 
 def packed(picture: Picture) -> bytes:
     """The pixels of a picture one after another, each in its bits; zeros after the last one up to a whole byte."""
     if picture.bits in (BYTE_BITS, WORD_BITS):
         return picture.pixels
-    values = array.array("H", picture.pixels if picture.width == 1 else words_of(picture.pixels))
+    values = big_endian(array.array("B" if picture.width == 1 else "H", picture.pixels))
     size, pixels = group_of(picture.bits)
     count = len(values)
     values.extend([0] * (-count % pixels))
@@ -153,7 +133,7 @@ def read_image(data: bytes) -> Image | None:
 
     try:
         image = Image.open(io.BytesIO(data), formats=READ_FORMATS)
-        if image.width * image.height > MOST_READ_PIXELS:
+        if image.width * image.height > MOST_PIXELS:
             return None
         image.load()
         return image
@@ -166,11 +146,10 @@ def read_image(data: bytes) -> Image | None:
 
 def is_coded(file: StoredFile) -> bool:
     """Whether the program has to be asked for the image of a file."""
-    header, structure = file.header, file.structure
-    if not header or not structure or not file.is_open_image or texts.ending_of(file.data):
+    structure = file.header.structure
+    if not structure or not file.header.is_open_image or texts.ending_of(file.data):
         return False
-    is_small = structure.columns * structure.lines <= MOST_EXPORTED_PIXELS
-    return structure.compression == xrit.LOSSLESS and header.is_lossless and is_small
+    return structure.compression == xrit.LOSSLESS and file.header.is_lossless and structure.area <= MOST_PIXELS
 
 
 def picture_of(file: StoredFile) -> Picture | None:
@@ -183,8 +162,8 @@ def pictures_of(files: Iterable[StoredFile | None]) -> Iterator[Picture | None]:
     batch: list[StoredFile | None] = []
     size = pixels = 0
     for file in files:
-        structure = file.structure if file else None
-        area = structure.columns * structure.lines if structure else 0
+        structure = file.header.structure if file else None
+        area = structure.area if structure else 0
         if file and batch and (size + len(file.item) > MOST_BATCH_BYTES or pixels + area > MOST_BATCH_PIXELS):
             yield from batch_pictures(batch)
             batch, size, pixels = [], 0, 0
@@ -196,14 +175,15 @@ def pictures_of(files: Iterable[StoredFile | None]) -> Iterator[Picture | None]:
 def batch_pictures(files: list[StoredFile | None]) -> Iterator[Picture | None]:
     exported = iter(exports_of([file.item for file in files if file and is_coded(file)]))
     for file in files:
-        if not file or not file.structure or not file.is_open_image:
+        structure = file.header.structure if file else None
+        if not file or not structure or not file.header.is_open_image:
             yield None
         elif is_coded(file):
             yield next(exported)
         elif texts.ending_of(file.data):
             yield read_picture(file.data)
         else:
-            yield plain_picture(file.structure, file.data)
+            yield plain_picture(structure, file.data)
 
 
 def exports_of(items: list[bytes]) -> list[Picture | None]:
@@ -247,47 +227,43 @@ def joined(parts: list[tuple[segments.Segment, Picture]]) -> Picture | None:
     canvas = bytearray(columns * lines * one.width)
     for segment, it in parts:
         top = segment.number * one.lines if segment.top is None else segment.top
-        if it.bits == one.bits and segment.left + it.columns <= columns and top + it.lines <= lines:
-            lay(canvas, columns, it, segment.left, top)
+        if it.bits != one.bits or segment.left + it.columns > columns or top + it.lines > lines:
+            continue
+        size = it.columns * it.width
+        for line in range(it.lines):
+            at = ((top + line) * columns + segment.left) * it.width
+            canvas[at : at + size] = it.pixels[line * size : (line + 1) * size]
     return Picture(one.bits, columns, lines, bytes(canvas))
-
-
-def lay(canvas: bytearray, columns: int, picture: Picture, left: int, top: int) -> None:
-    """Lays a picture onto a canvas with this number of columns."""
-    if picture.columns == columns:
-        at = top * columns * picture.width
-        canvas[at : at + len(picture.pixels)] = picture.pixels
-        return
-    for line in range(picture.lines):
-        at = ((top + line) * columns + left) * picture.width
-        canvas[at : at + picture.columns * picture.width] = picture.row(line)
 
 
 # ---- pictures as files
 
 
-def image_of(picture: Picture) -> Image:
-    """Pillow's image of a picture, with 8 or 16 bits a pixel: 0 stays, and the greatest value becomes the greatest
-    one."""
+def plain_image(picture: Picture) -> Image:
+    """Pillow's image of a picture, with 8 or 16 bits a pixel, whose values stay as they are."""
     from PIL import Image
 
-    size, most = (picture.columns, picture.lines), 2**picture.bits - 1
+    size = (picture.columns, picture.lines)
     if picture.width == 1:
-        image = Image.frombytes("L", size, picture.pixels)
-        return image if picture.bits == BYTE_BITS else image.point([min(it, most) * 255 // most for it in range(256)])
-    image = Image.frombytes("I;16", size, swapped(picture.pixels))  # (whose bytes are the least significant first)
-    scale = 65535 / most
-    return image if picture.bits == WORD_BITS else image.point(lambda it: it * scale + ROUNDING)
+        return Image.frombytes("L", size, picture.pixels)
+    words = array.array("H", picture.pixels)
+    words.byteswap()  # (that mode has the least significant byte first)
+    return Image.frombytes("I;16", size, words.tobytes())
+
+
+def image_of(picture: Picture) -> Image:
+    """The same with all levels: 0 stays, and the greatest value becomes the greatest one."""
+    image, most = plain_image(picture), 2**picture.bits - 1
+    if picture.bits in (BYTE_BITS, WORD_BITS):
+        return image
+    if picture.width == 1:
+        return image.point([min(it, most) * 255 // most for it in range(256)])
+    return image.point(lambda it: it * (65535 / most) + ROUNDING)
 
 
 def grey_of(picture: Picture) -> Image:
     """The same with 8 bits a pixel: of more the first ones."""
-    from PIL import Image
-
-    image = image_of(picture)
-    if picture.width == 1:
-        return image
-    return Image.frombytes("L", image.size, image.tobytes()[1::2])
+    return levels_of(image_of(picture))
 
 
 def png_of(picture: Picture) -> bytes:

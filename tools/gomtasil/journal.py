@@ -3,15 +3,14 @@
 A log isn't kept in memory: of 10^6 files it has some 120 MB. Its last line says where to go on, and the line of a file
 is found by halving, since the count of files grows along it. """
 
-from __future__ import annotations
-
+import contextlib
 import fcntl
 import hashlib
 import itertools
 import json
 import os
 from collections.abc import Collection, Iterator
-from typing import NamedTuple
+from typing import NamedTuple, Self
 
 from . import folder as folders
 from .shelf import Head, Shelf, label_of
@@ -43,7 +42,7 @@ class Line(NamedTuple):
         return " ".join(map(str, self)) + "\n"
 
     @classmethod
-    def of(cls, text: str) -> Line:
+    def of(cls, text: str) -> Self:
         # (lines of an earlier version have no sum of the file)
         what, number, files, gate, extent, found, name, *rest = text.split(" ")
         (file_sum,) = rest or (NO_SUM,)
@@ -61,12 +60,11 @@ class Log:
     def __init__(self, path: str):
         self.path = path
         self.descriptor = os.open(path, os.O_RDWR | os.O_CREAT, 0o644)
+        self.is_mine = False
         try:
-            fcntl.flock(self.descriptor, fcntl.LOCK_EX | fcntl.LOCK_NB)
-            self.is_mine = True
-        except BlockingIOError:
-            self.is_mine = False
-        try:
+            with contextlib.suppress(BlockingIOError):
+                fcntl.flock(self.descriptor, fcntl.LOCK_EX | fcntl.LOCK_NB)
+                self.is_mine = True
             self.read()
         except BaseException:
             self.close()
@@ -180,9 +178,10 @@ class Log:
             return self.shelf_path in (None, os.path.realpath(shelf.path))
         return sum_of(shelf.read(self.last.gate + 1, self.last.extent)) == self.last.sum
 
-    def end_of(self) -> Head | None:
-        """The head of the last item that was taken."""
-        return Head(self.last.gate, self.last.extent, self.last.number, False) if self.last else None
+    def mark_on(self, shelf: Shelf) -> bytes:
+        """Some bytes of the last item that was taken, by which another shelf in the same place is known."""
+        last = self.last
+        return shelf.mark(Head(last.gate, last.extent, last.number, False)) if last else b""
 
 
 def log_of(state: str, shelf: Shelf, prefix: str = "") -> tuple[str, Log]:

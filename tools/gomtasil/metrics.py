@@ -1,7 +1,5 @@
 """What is measured, as text for Prometheus (its exposition format, version 0.0.4), and the totals that only grow."""
 
-from __future__ import annotations
-
 from typing import Any
 
 from . import quality

@@ -1,5 +1,7 @@
-"""Coasts and borders over an image, placed by its navigation record. The lines come from GMT (`gmt coast -M`), or from
-a file of the same form: a longitude and a latitude a line, and a line that begins with > between two polygons."""
+"""Writes the image to which file N belongs as a PNG, with coasts and borders by its navigation record. The lines come
+from GMT (apt-get install gmt gmt-gshhg-low), or from a file of the same form: a longitude and a latitude a line, and a
+line that begins with > between two polygons.
+"""
 
 from __future__ import annotations
 
@@ -77,7 +79,7 @@ def draw(
 def overlay(path: str, number: int, lines_path: str | None, resolution: str, width: int) -> bytes:
     """The PNG of the image to which a file belongs, with coasts and borders over it."""
     with Shelf(path) as shelf:
-        picture, placement, _ = geo.whole_image(shelf, number)
+        picture, placement = geo.placed_image(shelf, number)
     image = images.grey_of(picture).convert("RGB")
     if lines_path:
         with open(lines_path, encoding="utf-8", errors="replace") as it:

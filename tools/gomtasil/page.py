@@ -1,18 +1,19 @@
-"""A page about a shelf, or about the shelves of a station's folder: its newest pictures and bulletins, how well it
-goes, what came on which channel, and what is missing. Jinja2 writes it, with every text quoted; page.html is its
-form."""
+"""Writes FOLDER/index.html, with pictures in FOLDER/pictures, about a shelf or about all shelves of a station's folder:
+the newest picture of each kind and older ones, bulletins in groups, how it goes, how well it came, and what is missing.
+The page needs no network and no script, and loads itself anew. Pictures that it doesn't name any more are removed.
+"""
 
-from __future__ import annotations
+# Jinja2 writes the page, with every text quoted; page.html is its form.
 
 import collections
-import datetime
+import contextlib
 import hashlib
 import os
 import re
 import time
-from collections.abc import Iterable, Iterator
+from collections.abc import Callable, Iterable, Iterator
 from dataclasses import dataclass, field
-from typing import Any, NamedTuple
+from typing import Any, NamedTuple, Self
 
 from . import folder as folders
 from . import images, products, program, quality, segments, station, texts, xrit
@@ -26,14 +27,13 @@ EACH = 32  # of each application that are shown whatever else came
 MOST_SHELVES = 8  # of a folder that are looked into for them
 MOST_TEXT_CHARACTERS = 20_000  # of a bulletin that are shown
 THUMBNAIL_PIXELS, LARGE_PIXELS = 160, 1024
-MOST_PICTURE_PIXELS = 64 * 1024 * 1024
 CORRECTABLE_BYTES = 64  # of a frame: sixteen in each of its four words
 COUNTER_MODULUS = 65_536
 MOST_GAP = 1000  # file counters that may be missing in a row; a greater step is a new start
 HASH_DIGITS = 24  # of the name of a picture
 MOST_STRETCHES = 240  # of the curve
-CURVE = {"width": 720, "height": 200, "left": 44, "right": 712, "bottom": 172, "top": 12}
 HOUR, DAY = 3600, 86_400  # seconds
+STAMP_FORM = "%Y-%m-%d %H:%M:%S"
 STATE = ".page"  # in the page's folder
 OWN_PICTURE = re.compile(
     r"([A-Za-z0-9._~-]*-)?[0-9]{6,}-[0-9a-f]{24}(-small|-large)?\.(png|jpg|gif)|\..*\.[0-9]+\.part"
@@ -55,28 +55,24 @@ class Steps:
     """The steps of the file counter from file to file. Senders count over all files or within some; most steps by one
     tell which."""
 
-    WHICH = ("over all files", "within each channel", "within each application")
+    WITHIN = ("over all files", "within each channel", "within each application")
 
     def __init__(self) -> None:
         self.before: dict[tuple[int, ...], int] = {}
-        self.ones = {name: 0 for name in self.WHICH}
-        self.all = {name: 0 for name in self.WHICH}
-        self.missing = {name: 0 for name in self.WHICH}
+        self.all, self.ones, self.missing = (dict.fromkeys(self.WITHIN, 0) for _ in range(3))
 
     def add(self, front: Front) -> None:
         channel, application, counter = front.fields.channel, front.fields.application, front.counter
-        for name, key in zip(self.WHICH, ((), (channel,), (channel, application))):
+        for name, key in zip(self.WITHIN, ((), (channel,), (channel, application))):
             step = (counter - self.before.get(key, counter)) % COUNTER_MODULUS
-            if step == 1:
-                self.ones[name] += 1
-            elif 1 < step <= MOST_GAP:
-                self.missing[name] += step - 1
             self.all[name] += key in self.before
+            self.ones[name] += step == 1
+            self.missing[name] += step - 1 if 1 < step <= MOST_GAP else 0
             self.before[key] = counter
 
     @property
     def words(self) -> str:
-        name = max(self.WHICH, key=lambda it: self.ones[it] / max(1, self.all[it]))
+        name = max(self.WITHIN, key=lambda it: self.ones[it] / max(1, self.all[it]))
         if 2 * self.ones[name] <= self.all[name]:
             return "File counters don't tell whether files are missing."
         return f"Missing by the file counters, which count {name}: {self.missing[name]}."
@@ -89,18 +85,13 @@ class Stretches:
         self.length = 1
         self.sums: dict[int, list[float]] = {}
 
-    def add(self, place: int, value: float) -> None:
+    def add(self, place: int, value: float, count: float = 1) -> None:
         row = self.sums.setdefault(place // self.length, [0, 0])
-        row[0] += 1
-        row[1] += value
-        while len(self.sums) > MOST_STRETCHES:
-            self.length *= 2
-            merged: dict[int, list[float]] = {}
-            for key, (count, total) in self.sums.items():
-                row = merged.setdefault(key // 2, [0, 0])
-                row[0] += count
-                row[1] += total
-            self.sums = merged
+        row[:] = row[0] + count, row[1] + value
+        if len(self.sums) > MOST_STRETCHES:
+            rows, self.sums, self.length = self.sums, {}, 2 * self.length
+            for key, (number, total) in rows.items():
+                self.add(key * self.length // 2, total, number)
 
     @property
     def points(self) -> list[tuple[float, float]]:
@@ -124,7 +115,7 @@ class Summary:
     points: list[tuple[float, float]] = field(default_factory=list)  # corrected bytes a frame, over frames
 
     @classmethod
-    def of(cls, kept: dict[str, Any]) -> Summary:
+    def of(cls, kept: dict[str, Any]) -> Self:
         def place(row: Any) -> Place:
             gate, extent, number, is_discard = row[0]
             return Place(Head(int(gate), int(extent), int(number), bool(is_discard)), int(row[1]), int(row[2]))
@@ -191,7 +182,7 @@ class Walk:
 
 def summary_of(shelf: Shelf, newest: int, gone: frozenset[int] = frozenset()) -> Summary:
     """What the fronts of a shelf's files tell, without these. Where further ones are discarded it begins anew."""
-    walk, pieces, discarded = Walk(newest), Pieces(shelf), set()
+    walk, pieces, discarded = Walk(newest), Pieces(shelf.read), set()
     try:
         for head in shelf.heads():
             if head.is_discard:
@@ -218,6 +209,14 @@ def kept_summary(shelf: Shelf, state: str, newest: int) -> Summary:
 
 
 # ---- what is shown
+
+
+def utc(seconds: float, form: str = "%Y-%m-%d %H:%M") -> str:
+    """A time in UTC; nothing where there is no such time."""
+    try:
+        return time.strftime(form, time.gmtime(seconds))
+    except (OverflowError, ValueError, OSError):
+        return ""
 
 
 @dataclass
@@ -252,7 +251,7 @@ class Source(NamedTuple):
         if not self.rate or place.reception != self.summary.receptions:
             return ""
         seconds = (self.summary.last_frame - place.frame) * FRAME_SYMBOLS / self.rate
-        return time.strftime("%Y-%m-%d %H:%M", time.gmtime(self.changed - seconds))
+        return utc(self.changed - seconds)
 
 
 class Pictures:
@@ -281,24 +280,26 @@ class Pictures:
         ending = texts.ending_of(file.data) if file else None
         if file and ending and not group.missing:
             return self.of_data(name, ending, file.data)
-        paths = (name + ".png", name + "-small.jpg")
-        if not all([self.has(it) for it in paths]):
-            picture = images.group_picture(shelf, group) if group.area <= MOST_PICTURE_PIXELS else None
-            if not picture:
-                return "", ""
-            self.write(paths[0], images.png_of(picture))
-            self.write(paths[1], images.jpeg_of(images.grey_of(picture), THUMBNAIL_PIXELS))
-        return paths
+
+        def draw() -> tuple[bytes, Any] | None:
+            picture = images.group_picture(shelf, group) if group.area <= images.MOST_PIXELS else None
+            return (images.png_of(picture), images.grey_of(picture)) if picture else None
+
+        return self.made(name, ".png", draw)
 
     def of_data(self, name: str, ending: str, data: bytes) -> tuple[str, str]:
         """The same of a picture that is shown as it was sent."""
+        return self.made(name, ending, lambda: (data, image) if (image := images.read_image(data)) else None)
+
+    def made(self, name: str, ending: str, make: Callable[[], tuple[bytes, Any] | None]) -> tuple[str, str]:
+        """The same of the bytes and the image that are made, where they don't stand there yet."""
         paths = (name + ending, name + "-small.jpg")
         if not all([self.has(it) for it in paths]):
-            image = images.read_image(data)
-            if not image:
+            found = make()
+            if not found:
                 return "", ""
-            self.write(paths[0], data)
-            self.write(paths[1], images.jpeg_of(image, THUMBNAIL_PIXELS))
+            self.write(paths[0], found[0])
+            self.write(paths[1], images.jpeg_of(found[1], THUMBNAIL_PIXELS))
         return paths
 
     def large(self, picture: str) -> str:
@@ -320,30 +321,26 @@ class Pictures:
                 os.unlink(os.path.join(folder, name))
 
 
-def stamp_of(file: StoredFile) -> str:
-    return f"{file.stamp:%Y-%m-%d %H:%M:%S}" if file.stamp else ""
-
-
 def shown_image(pictures: Pictures, source: Source, group: Group, place: Place) -> Shown:
     product = products.product_of(group.name)
     picture, thumbnail = pictures.of_group(source.shelf, group)
     note = group.note if picture else "this image can't be shown here"
     numbers = segments.in_words(sorted(group.numbers))
-    found = Shown(numbers, group.name, product.words, stamp_of(group.file), source.came(place), "image", note)
-    found.picture, found.thumbnail, found.is_full_disk = picture, thumbnail, product.is_full_disk
-    return found
+    when = group.file.header.stamped(STAMP_FORM)
+    about = (numbers, group.name, product.words, when, source.came(place))
+    return Shown(*about, "image", note, product.is_full_disk, picture, thumbnail)
 
 
 def shown_other(pictures: Pictures, source: Source, file: StoredFile, place: Place) -> list[Shown]:
     """A file that is no image: its texts as one bulletin, each picture in it, or just its name."""
     header, name = file.header, texts.name_of(file)
-    kind = f"type {header.file_type}" if header else "header with a fault"
-    plain = Shown(str(file.number), name, name, stamp_of(file), source.came(place), kind)
-    inside = texts.inside(file)
-    found = [
-        (member, data.decode("utf-8")) for member, data in inside.items() if member.lower().endswith(texts.TEXT_ENDING)
-    ]
-    shown = []
+    kind = "header with a fault" if header.file_type == xrit.FAULTY else f"type {header.file_type}"
+    plain = Shown(str(file.number), name, name, header.stamped(STAMP_FORM), source.came(place), kind)
+    inside, shown = {}, []
+    if header.is_open:
+        with contextlib.suppress(texts.BadZip):
+            inside = texts.inside(file)
+    found = [(it, data.decode()) for it, data in inside.items() if it.lower().endswith(texts.TEXT_ENDING)]
     for member, data in inside.items():
         ending = texts.ending_of(data)
         if ending:
@@ -393,92 +390,58 @@ class Content:
 
     def kinds(self) -> list[list[Shown]]:
         """Pictures by what they show: the full disks first, and then by their words."""
-        found: dict[str, list[Shown]] = {}
+        rows = collections.defaultdict(list)
         for it in self.pictures:
-            found.setdefault(it.words, []).append(it)
-        return sorted(found.values(), key=lambda row: (not row[0].is_full_disk, row[0].words))
+            rows[it.words].append(it)
+        return sorted(rows.values(), key=lambda row: (not row[0].is_full_disk, row[0].words))
 
     def groups(self) -> list[tuple[str, list[Shown]]]:
-        found: dict[str, list[Shown]] = {}
+        rows = collections.defaultdict(list)
         for it in self.bulletins:
-            found.setdefault(it.group, []).append(it)
-        return sorted(found.items(), key=lambda row: products.place_of_group(row[0]))
+            rows[it.group].append(it)
+        return sorted(rows.items(), key=lambda row: products.place_of_group(row[0]))
 
     def hero(self) -> Shown | None:
         """The newest full disk; where there is none, the newest picture."""
-        full = [it for it in self.pictures if it.is_full_disk]
-        found = sorted(full or self.pictures, key=lambda it: it.when)
-        return next(
-            (it for it in self.pictures if found and it.when == found[-1].when and (it.is_full_disk or not full)), None
-        )
+        found = [it for it in self.pictures if it.is_full_disk] or self.pictures
+        return max(found, key=lambda it: it.when) if found else None
 
 
 # ---- how well it came
 
 
-def curve_of(
-    points: list[tuple[float, float]], lost: list[tuple[float, float, str]], ticks: list[str]
-) -> dict[str, Any] | None:
-    """The drawing of corrected bytes a frame over something between 0 and 1, and the shares that were lost as bars."""
-    if not points:
-        return None
-    width, height = CURVE["right"] - CURVE["left"], CURVE["bottom"] - CURVE["top"]
+class Curve(NamedTuple):
+    """Corrected bytes a frame, and the shares of frames that were lost with words, over something between 0 and 1."""
 
-    def x_of(x: float) -> float:
-        return round(CURVE["left"] + width * x, 1)
-
-    def y_of(y: float) -> float:
-        return round(CURVE["bottom"] - height * min(y, CORRECTABLE_BYTES) / CORRECTABLE_BYTES, 1)
-
-    places = [(x_of(x), y_of(y)) for x, y in points]
-    bar = max(2.0, round(width / MOST_STRETCHES, 1))
-    anchors = ["start", *["middle"] * (len(ticks) - 2), "end"]
-    return {
-        **CURVE,
-        "levels": [{"y": y_of(it), "text": it} for it in range(0, CORRECTABLE_BYTES + 1, CORRECTABLE_BYTES // 4)],
-        "points": places,
-        "path": "M" + " L".join(f"{x} {y}" for x, y in places),
-        "lost": [
-            {
-                "x": x_of(x),
-                "y": round(CURVE["bottom"] - height * share, 1),
-                "height": round(height * share, 1),
-                "width": bar,
-                "text": text,
-            }
-            for x, share, text in lost
-            if share
-        ],
-        "ticks": [
-            {"x": x_of(place / max(1, len(ticks) - 1)), "text": text, "anchor": anchor}
-            for place, (text, anchor) in enumerate(zip(ticks, anchors))
-        ],
-    }
+    points: list[tuple[float, float]]
+    lost: list[tuple[float, float, str]]
+    ticks: list[str]
+    over: str
 
 
-def clock(seconds: float) -> str:
-    return time.strftime("%H:%M", time.gmtime(seconds))
+def clocks(begin: float, end: float) -> list[str]:
+    """Hours and minutes at five places of the same distances."""
+    return [utc(begin + (end - begin) * place / 4, "%H:%M") for place in range(5)]
 
 
-def curve_of_minutes(minutes: list[quality.Minute]) -> dict[str, Any] | None:
+def curve_of_minutes(minutes: list[quality.Minute]) -> Curve:
     """The curve of the last day, from the minutes that a station's folder keeps."""
     begin, end = minutes[0].time, max(minutes[-1].time, minutes[0].time + HOUR)
     rows: dict[int, list[quality.Minute]] = {}
     for it in minutes:
         rows.setdefault(int((it.time - begin) * MOST_STRETCHES / (end - begin + 1)), []).append(it)
-    points, lost = [], []
+    curve = Curve([], [], clocks(begin, end), "the last day, in UTC")
     for key, row in sorted(rows.items()):
         sum_ = quality.total(row)
         if sum_.frames > sum_.lost:
-            points.append((key / MOST_STRETCHES, sum_.corrected / (sum_.frames - sum_.lost)))
-        text = f"{clock(row[0].time)} UTC: {sum_.lost} of {sum_.frames} frames lost"
-        lost.append((key / MOST_STRETCHES, sum_.lost / sum_.frames if sum_.frames else 0, text))
-    ticks = [clock(begin + (end - begin) * place / 4) for place in range(5)]
-    curve = curve_of(points, lost, ticks)
-    return curve and {**curve, "over": "the last day, in UTC"}
+            curve.points.append((key / MOST_STRETCHES, sum_.corrected / (sum_.frames - sum_.lost)))
+        if sum_.lost:
+            text = f"{utc(row[0].time, '%H:%M')} UTC: {sum_.lost} of {sum_.frames} frames lost"
+            curve.lost.append((key / MOST_STRETCHES, sum_.lost / sum_.frames, text))
+    return curve
 
 
-def curve_of_frames(source: Source) -> dict[str, Any] | None:
+def curve_of_frames(source: Source) -> Curve | None:
     """The curve of a shelf, over its frames, or over time where the rate is known."""
     points = source.summary.points
     if not points:
@@ -487,26 +450,22 @@ def curve_of_frames(source: Source) -> dict[str, Any] | None:
     scaled = [((x - first) / (last - first) if last > first else 0.5, y) for x, y in points]
     if source.rate and not source.summary.receptions:
         begin = source.changed - (source.summary.last_frame - first) * FRAME_SYMBOLS / source.rate
-        ticks, over = [clock(begin + (source.changed - begin) * it / 4) for it in range(5)], "time, in UTC"
-    else:
-        ticks, over = [f"frame {first:.0f}", f"frame {last:.0f}"], "its frames"
-    curve = curve_of(scaled, [], ticks)
-    return curve and {**curve, "over": over}
+        return Curve(scaled, [], clocks(begin, source.changed), "time, in UTC")
+    return Curve(scaled, [], [f"frame {first:.0f}", f"frame {last:.0f}"], "its frames")
 
 
 def losses_of(path: str) -> tuple[int, int]:
     """The frames and those that were lost, from the lines of minutes in a file; where it has none, from the last lines
     of `receive`."""
-    minute = re.compile(r"minute \d+ frames (\d+) lost (\d+)\b")
     last = re.compile(r"symbols \d+ frames (\d+) restored \d+ lost (\d+) packets ")
-    sums = {minute: [0, 0, 0], last: [0, 0, 0]}
+    sums = {quality.MINUTE_LINE: [0, 0, 0], last: [0, 0, 0]}
     with open(path, encoding="utf-8", errors="replace") as it:
         for line in it:
             for shape, row in sums.items():
                 match = shape.search(line)
                 if match:
                     row[:] = [row[0] + 1, row[1] + int(match[1]), row[2] + int(match[2])]
-    _, frames, lost = sums[minute] if sums[minute][0] else sums[last]
+    _, frames, lost = sums[quality.MINUTE_LINE] if sums[quality.MINUTE_LINE][0] else sums[last]
     return frames, lost
 
 
@@ -522,10 +481,8 @@ def missing_lines(content: Content, source: Source | None, log: str | None, minu
     else:
         lines.append("Lost frames aren't on a shelf: --log names a file with the lines of a reception.")
     if source:
-        lines.append(source.summary.gaps)
-        lines.append(
-            f"Files discarded: {source.summary.discarded}. With a bad checksum among the newest: {content.damaged}."
-        )
+        discarded = f"Files discarded: {source.summary.discarded}"
+        lines += [source.summary.gaps, f"{discarded}. With a bad checksum among the newest: {content.damaged}."]
         if source.summary.breaks_off:
             lines.append("The shelf is damaged: its items break off.")
     return lines + content.missing
@@ -589,12 +546,11 @@ def sources_of(paths: list[str], state: str, wishes: Wishes) -> Iterator[Source]
             return
 
 
-def counts_of(source: Source) -> Iterator[tuple[int, int, int, int, str]]:
+def counts_of(source: Source) -> Iterator[tuple[str, ...]]:
     """A row for each application of a channel."""
     for key, (files, size) in sorted(source.summary.counts.items(), key=lambda it: list(map(int, it[0].split()))):
-        channel, application = map(int, key.split())
         last = source.shelf.load(source.summary.lasts[key].head)
-        yield channel, application, files, size, texts.name_of(last) if last else ""
+        yield *key.split(), f"{files:,}", f"{size:,}", texts.name_of(last) if last else ""
 
 
 def write_page(path: str, folder: str, wishes: Wishes) -> None:
@@ -625,11 +581,11 @@ def write_page(path: str, folder: str, wishes: Wishes) -> None:
         "hero": hero,
         "kinds": content.kinds(),
         "bulletins": content.groups(),
-        "others": content.others,
+        "others": [(it.numbers, it.name, it.when, it.kind, it.note) for it in content.others],
         "shelves": list(map(row_of, found)),
-        "facts": [f"{first.summary.files} files on {os.path.basename(first.shelf.path)}."]
+        "shown": f"{first.summary.files} files on {os.path.basename(first.shelf.path)}"
         if first
-        else ["There is no shelf."],
+        else "There is no shelf",
     }
     if is_folder:
         values["state"] = state_of_station(path, minutes)
@@ -639,9 +595,8 @@ def write_page(path: str, folder: str, wishes: Wishes) -> None:
     forget(state, paths)
 
 
-def row_of(found: station.Found) -> dict[str, Any]:
-    changed = time.strftime("%Y-%m-%d %H:%M", time.gmtime(found.changed))
-    return {"name": os.path.basename(found.path), "size": found.size, "full": found.full, "changed": changed}
+def row_of(found: station.Found) -> tuple[str, ...]:
+    return os.path.basename(found.path), f"{found.size:,}", f"{found.full} %", utc(found.changed)
 
 
 def forget(state: str, paths: list[str]) -> None:
@@ -659,12 +614,10 @@ def jinja() -> Any:
     except ImportError:
         raise program.Missing("Jinja2 is missing: apt-get install python3-jinja2") from None
     loader = jinja2.FileSystemLoader(os.path.dirname(os.path.abspath(__file__)))
-    return jinja2.Environment(loader=loader, autoescape=True, undefined=jinja2.StrictUndefined).get_template(
-        "page.html"
-    )
+    forms = jinja2.Environment(loader=loader, autoescape=True, undefined=jinja2.StrictUndefined)
+    return forms.get_template("page.html")
 
 
 def rendered(values: dict[str, Any], wishes: Wishes) -> str:
-    written = datetime.datetime.now(datetime.timezone.utc)
-    constants = {"correctable": CORRECTABLE_BYTES, "most_text": MOST_TEXT_CHARACTERS, "refresh": wishes.refresh}
-    return str(jinja().render(**values, **constants, written=f"{written:%Y-%m-%d %H:%M}"))
+    constants = {"correctable": CORRECTABLE_BYTES, "most_text": MOST_TEXT_CHARACTERS, "stretches": MOST_STRETCHES}
+    return str(jinja().render(**values, **constants, refresh=wishes.refresh, written=utc(time.time())))

@@ -1,21 +1,21 @@
-"""Every image of a shelf as a picture in a folder: the segments of one are put together, and the others are as they
-are.
-
-A picture is called STAMP-NAME@SHELF.N: the time stamp and the annotation of the file (of the first one that came, for
-segments), the name of the shelf, and the number of the file there. Where segments are missing -lacks-COUNT follows, and
-where packets are -mended-COUNT, until a later run has more of them. What stands there already is left as it is.
+"""Draws each image as STAMP-NAME@SHELF.N.png, with the time stamp and the name of the file (of the first one that
+came, for segments), the name of the shelf, and the number of the file there; JPEG, GIF and PNG stay as they were sent.
+Segments of one image are put together by any of three forms of record, and strips of JPEG are too. Where segments are
+missing their places are black and -lacks-COUNT follows, and where packets of a file were missing -mended-COUNT, until a
+later run has more of them. What stands there already is left as it is. The newest picture of each kind is
+latest/KIND.png too.
 """
 
 from __future__ import annotations
 
 import os
 import re
-from collections.abc import Iterator
+from collections.abc import Iterator, Sequence
 from dataclasses import dataclass
 from typing import TYPE_CHECKING, NamedTuple
 
 from . import colours, folder as folders
-from . import images, products, program, segments, texts, xrit
+from . import images, products, program, segments, texts
 from . import shelf as shelves
 from .segments import Group
 from .shelf import Shelf
@@ -36,6 +36,13 @@ class Enhancement(NamedTuple):
     pattern: str
     table: str
 
+    @classmethod
+    def of(cls, text: str) -> Enhancement:
+        pattern, _, table = text.rpartition("=")
+        if not pattern or table not in colours.TABLES:
+            raise ValueError(f"it is PATTERN=TABLE, and the tables are {', '.join(colours.TABLES)}")
+        return cls(pattern, table)
+
 
 @dataclass(frozen=True)
 class Wishes:
@@ -43,7 +50,7 @@ class Wishes:
 
     patterns: tuple[str, ...] = ()  # of annotations; where there is none, all
     enhancements: tuple[Enhancement, ...] = ()
-    false_colour: tuple[str, str] | None = None  # patterns of the visible and of the infrared picture
+    false_colour: Sequence[str] | None = None  # patterns of the visible and of the infrared picture
     has_latest: bool = True
 
 
@@ -63,25 +70,23 @@ class Drawer:
         self.wishes = wishes
         self.label = folders.safe(shelves.label_of(shelf.path))[:MOST_SHELF_CHARACTERS]
         self.failed = False
-        self.newest: dict[str, str] = {}  # the pictures of each kind that came last
 
     def full(self, name: str) -> str:
         return os.path.join(self.folder, name)
 
     def groups(self) -> Iterator[Group]:
         """The images of the shelf. Of a file that can't be read there is a word."""
-        fronts = self.shelf.fronts(gone=self.shelf.gone())
-        for group in segments.groups_of(self.shelf, (it.head for it in fronts if it.file_type == xrit.IMAGE_TYPE)):
+        for group in segments.groups_of(self.shelf, self.shelf.images()):
             if not isinstance(group, Group):
                 self.failed = True
                 program.tell(f"file {group.number} of {self.shelf.path} has a bad checksum and is left out")
-            elif group.file.structure and folders.fits(group.file, self.wishes.patterns or ["*"]):
+            elif group.file.header.structure and folders.fits(group.file, self.wishes.patterns or ["*"]):
                 yield group
 
     def stem_of(self, group: Group) -> str:
-        stamp = group.file.stamp
+        stamp = group.file.header.stamped(folders.STAMP_FORM + "-")
         name = folders.annotation_of(group.file).removesuffix(folders.WHOLE_ENDING) or "image"
-        return f"{f'{stamp:{folders.STAMP_FORM}}-' if stamp else ''}{name}@{self.label}.{group.file.number}"
+        return f"{stamp}{name}@{self.label}.{group.file.number}"
 
     def name_of(self, group: Group) -> str:
         """The name of a picture without its ending."""
@@ -97,7 +102,11 @@ class Drawer:
                 program.tell(f"{self.name_of(group)}: {group.note}")
         wanted = [it for it in groups if not self.standing(self.name_of(it)) and not self.put_as_sent(it)]
         for group, picture in zip(wanted, images.group_pictures(self.shelf, wanted)):
-            self.put_picture(group, picture)
+            if picture:
+                self.put(self.name_of(group) + ".png", images.png_of(picture))
+            else:
+                where = f"file {segments.in_words(sorted(group.numbers))} of {self.shelf.path}"
+                program.tell(f"{group.name}: {where} has no image that can be had here")
         drawn = [Drawn(name, it) for it in groups if (name := self.standing(self.name_of(it)))]
         for it in drawn:
             self.enhance(it)
@@ -113,17 +122,10 @@ class Drawer:
         """Writes a JPEG, GIF or PNG that is no segment. Whether it is one."""
         file = self.shelf.load(group.parts[0].head) if not group.segments or group.segments[0].total == 1 else None
         ending = texts.ending_of(file.data) if file else None
-        if not file or not ending or (file.header and file.header.is_encrypted):
+        if not file or not ending or not file.header.is_open:
             return False
         self.put(self.name_of(group) + ending, file.data)
         return True
-
-    def put_picture(self, group: Group, picture: images.Picture | None) -> None:
-        if picture:
-            self.put(self.name_of(group) + ".png", images.png_of(picture))
-            return
-        numbers = segments.in_words(sorted(group.numbers))
-        program.tell(f"{group.name}: file {numbers} of {self.shelf.path} has no image that can be had here")
 
     def put(self, name: str, data: bytes) -> None:
         try:
@@ -172,18 +174,15 @@ class Drawer:
     @staticmethod
     def by_time(drawn: list[Drawn], pattern: str) -> dict[str, Drawn]:
         """The pictures whose names fit, by their minutes."""
-        found = {}
-        for it in drawn:
-            if it.group.file.stamp and folders.fits(it.group.file, [pattern]):
-                found[f"{it.group.file.stamp:%Y%m%d%H%M}"] = it
-        return found
+        fit = [it for it in drawn if it.group.file.header.stamp and folders.fits(it.group.file, [pattern])]
+        return {it.group.file.header.stamped("%Y%m%d%H%M"): it for it in fit}
 
     # ---- the latest of each kind
 
     def link_latest(self, drawn: list[Drawn]) -> None:
         """Writes latest/KIND.png: the newest picture of each kind that lacks nothing, or else the newest one."""
         newest: dict[str, Drawn] = {}
-        for it in sorted(drawn, key=lambda it: (not it.group.missing, stamp_of(it.group), it.group.file.number)):
+        for it in sorted(drawn, key=lambda it: it.group.rank):
             newest[products.product_of(it.group.name).short] = it
         if newest:
             os.makedirs(self.full(LATEST), exist_ok=True)
@@ -191,10 +190,6 @@ class Drawer:
             final = os.path.join(LATEST, kind + os.path.splitext(it.name)[1])
             if not folders.is_same(self.full(final), self.full(it.name)):
                 renamed_over(self.full(it.name), self.full(final))
-
-
-def stamp_of(group: Group) -> str:
-    return f"{group.file.stamp:%Y%m%dT%H%M%S%f}" if group.file.stamp else ""
 
 
 def renamed_over(one: str, other: str) -> None:
@@ -230,15 +225,13 @@ def draw_shelf(path: str, folder: str, wishes: Wishes) -> bool:
 def draw(path: str, folder: str, wishes: Wishes) -> int:
     """Draws the images of a shelf, or of all shelves of a folder. The status."""
     os.makedirs(folder, exist_ok=True)
-    status = 0
-    paths = shelves.paths_of(path)
-    if not paths:
-        program.tell(f"{path}: there is no shelf")
-        status = 1
-    for it in paths:
+    faults = 0
+    for it in (paths := shelves.paths_of(path)):
         try:
-            status = status if draw_shelf(it, folder, wishes) else 1
+            faults += not draw_shelf(it, folder, wishes)
         except (OSError, shelves.ShelfError) as fault:
             program.tell(f"{it}: {program.reason(fault)}")
-            status = 1
-    return status
+            faults += 1
+    if not paths:
+        program.tell(f"{path}: there is no shelf")
+    return int(faults > 0 or not paths)

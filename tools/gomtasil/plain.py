@@ -1,7 +1,6 @@
-"""An image of a shelf as a plain xRIT file, for readers that don't decode lines that are coded without loss, as
-satpy."""
-
-from __future__ import annotations
+"""Writes the mission file N with its image not coded, for readers that don't decode lines that are coded without loss,
+as satpy. A file that isn't coded is written as it is.
+"""
 
 from . import images, program, xrit
 from .images import Picture
@@ -26,10 +25,10 @@ def plain(path: str, number: int) -> bytes:
     """The plain bytes of a file. One that isn't coded stays as it is."""
     with Shelf(path) as shelf:
         file = shelf.file(number)
-    header, structure = file.header, file.structure
-    if header is None or structure is None or structure.compression == xrit.NOT_COMPRESSED:
+    structure = file.header.structure
+    if structure is None or structure.compression == xrit.NOT_COMPRESSED:
         return file.proper
     picture = images.picture_of(file) if images.is_coded(file) else None
     if picture is None:
         raise ShelfError(f"the program {program.name()} exports no image of file {number}")
-    return plain_file(header, structure, picture)
+    return plain_file(file.header, structure, picture)

@@ -1,7 +1,5 @@
 """What names of files mean, in words. Each pattern names where it comes from; a name that fits none stays as it is."""
 
-from __future__ import annotations
-
 import re
 from typing import NamedTuple
 

@@ -1,7 +1,5 @@
 """What all commands share: the words that they say, the signals that end them, and calls of the proved program."""
 
-from __future__ import annotations
-
 import os
 import signal
 import subprocess
@@ -32,17 +30,15 @@ def reason(fault: BaseException) -> str:
 
 def end_by_signals() -> None:
     """Makes the signals that ask for an end raise SystemExit, so that what is half done is removed."""
-
-    def end(number: int, _: object) -> None:
-        sys.exit(128 + number)
-
     for it in SIGNALS:
-        signal.signal(it, end)
+        signal.signal(it, lambda number, _: sys.exit(128 + number))
 
 
 def hold_signals() -> None:
     """Blocks the signals that ask for an end, so that none ends anything in its middle."""
     signal.pthread_sigmask(signal.SIG_BLOCK, SIGNALS)
+    for it in SIGNALS:  # (what is started from here has none of the handlers of `end_by_signals`)
+        signal.signal(it, signal.SIG_DFL)
 
 
 def pending_signal() -> signal.Signals | None:
@@ -70,20 +66,14 @@ def name() -> str:
 def called(items: Sequence[bytes], *words: str) -> bytes | None:
     """What the program prints for these words, over a shelf in memory that has these items; None where it doesn't end
     well."""
-    descriptor = os.memfd_create("shelf")
-    try:
-        with open(descriptor, "wb", closefd=False) as it:
-            it.write(shelves.shelf_of(items))
-        done = subprocess.run(
-            [name(), f"/proc/self/fd/{descriptor}", *words],
-            stdin=subprocess.DEVNULL,
-            capture_output=True,
-            timeout=EXPORT_SECONDS,
-            check=True,
-            pass_fds=[descriptor],
-        )
-    except (OSError, subprocess.SubprocessError):
-        return None
-    finally:
-        os.close(descriptor)
-    return done.stdout
+    with open(os.memfd_create("shelf"), "wb") as it:
+        it.write(shelves.shelf_of(items))
+        it.flush()
+        command = [name(), f"/proc/self/fd/{it.fileno()}", *words]
+        try:
+            done = subprocess.run(
+                command, stdin=subprocess.DEVNULL, capture_output=True, timeout=EXPORT_SECONDS, pass_fds=[it.fileno()]
+            )
+        except (OSError, subprocess.SubprocessError):
+            return None
+    return done.stdout if done.returncode == 0 else None

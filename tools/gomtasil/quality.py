@@ -1,12 +1,10 @@
-"""How well a reception goes, minute by minute, from the lines of `decode` or of `frames`.
-
-Of symbols and blocks the program says what became of each frame, and how many bytes were corrected. Of frames that
-others restored nothing of this is left: there a loss is a step of a channel's counter.
+"""Reads the lines of `decode`, or those of `frames`, and prints for each minute its number, the frames that began in
+it, how many of them were lost, and the corrected bytes of a restored frame (of at most 64 that can be). Of frames a
+loss is a step of a channel's counter. Where no line comes for a minute it says so. Status 1: no frame is restored.
 """
 
-from __future__ import annotations
-
 import os
+import re
 import select
 import time
 from collections.abc import Iterator
@@ -19,6 +17,7 @@ COUNTER_MODULUS = 1 << 24
 MOST_STEP = 100_000  # frames of a channel that may be lost in a row; a greater step is a new start of its counter
 MOST_MINUTES = 3000  # that the folder keeps; where there are more, half of them go
 MINUTES, QUALITY = "minutes", "quality"  # files of a station's folder
+MINUTE_LINE = re.compile(r"minute \d+ frames (\d+) lost (\d+)(?: corrected ([0-9.]+))?\b")  # a line that is told
 NOTHING = "no frame is restored: nothing locks"
 
 
@@ -36,8 +35,7 @@ class Quality:
 
     def __init__(self, rate: int):
         self.rate = rate
-        self.minute = 0
-        self.frames = self.lost = self.corrected = 0
+        self.minute = self.frames = self.lost = self.corrected = 0
         self.restored = 0  # in all
         self.place = 0  # in frames, where a line doesn't say it
         self.has_code = True
@@ -45,50 +43,43 @@ class Quality:
 
     def take(self, line: str) -> Iterator[str]:
         """Takes a line. What is told then."""
-        words = line.split()
-        if words[:1] == ["window"] and len(words) > 7:
-            yield from self.until(int(words[3]))
-            self.count(words[6:])
-        elif words[:1] == ["block"] and len(words) > 3:
-            yield from self.until(FRAME_SYMBOLS * int(words[1]))
-            self.count(words[2:])
-        elif words[:1] == ["frame"] and len(words) > 4:
-            self.has_code = False
-            self.count_frame(words)
-            yield from self.until(FRAME_SYMBOLS * (self.place - 1))
-            self.add_frame()
-        elif words[:1] == ["symbols"] and len(words) > 1:
-            yield from self.until(int(words[1]) - 1)
+        match line.split():
+            case ["window", _, _, place, _, _, outcome, *numbers]:
+                yield from self.add_outcome(int(place), outcome, numbers)
+            case ["block", place, outcome, *numbers]:
+                yield from self.add_outcome(FRAME_SYMBOLS * int(place), outcome, numbers)
+            case ["frame", _, "vc", channel, _, counter, *_]:
+                yield from self.add_frame(self.missing(channel, int(counter)), 0)
+            case ["frame", _, *_]:
+                yield from self.add_frame(0, 1)
+            case ["symbols", count, *_]:
+                yield from self.until(int(count) - 1)
 
     def until(self, place: int) -> Iterator[str]:
         """Tells the minutes that ended before a symbol's place."""
-        now = place // (60 * self.rate)
-        while self.minute < now:
+        while self.minute < place // (60 * self.rate):
             yield self.told()
 
-    def count(self, words: list[str]) -> None:
-        self.frames += 1
-        if words[0] == "lost":
-            self.lost += 1
-        else:
-            self.corrected += sum(map(int, words[1:5]))
-            self.restored += 1
+    def add(self, place: int, frames: int, lost: int, corrected: int) -> Iterator[str]:
+        yield from self.until(place)
+        self.frames, self.lost, self.corrected = self.frames + frames, self.lost + lost, self.corrected + corrected
+        self.restored += frames - lost
 
-    def count_frame(self, words: list[str]) -> None:
-        """Counts what is missing before a frame, by its channel's counter; and a frame that isn't one."""
-        self.missing = 0
-        self.is_refused = words[2] != "vc"
-        if not self.is_refused:
-            channel, counter = words[3], int(words[5])
-            step = (counter - self.counters.get(channel, counter - 1) - 1) % COUNTER_MODULUS
-            self.missing = step if step <= MOST_STEP else 0
-            self.counters[channel] = counter
-        self.place += 1 + self.missing
+    def add_outcome(self, place: int, outcome: str, numbers: list[str]) -> Iterator[str]:
+        is_lost = outcome == "lost"
+        return self.add(place, 1, int(is_lost), 0 if is_lost else sum(map(int, numbers[:4])))
 
-    def add_frame(self) -> None:
-        self.frames += 1 + self.missing
-        self.lost += self.missing + self.is_refused
-        self.restored += not self.is_refused
+    def missing(self, channel: str, counter: int) -> int:
+        """How many frames are missing before one, by its channel's counter."""
+        step = (counter - self.counters.get(channel, counter - 1) - 1) % COUNTER_MODULUS
+        self.counters[channel] = counter
+        return step if step <= MOST_STEP else 0
+
+    def add_frame(self, missing: int, refused: int) -> Iterator[str]:
+        """Adds a frame without its code, and those that are missing before it."""
+        self.has_code = False
+        self.place += 1 + missing
+        return self.add(FRAME_SYMBOLS * (self.place - 1), 1 + missing, missing + refused, 0)
 
     def told(self) -> str:
         line = f"minute {self.minute} frames {self.frames} lost {self.lost}"
@@ -127,8 +118,7 @@ def quality(rate: int, folder: str | None, pause: float) -> int:
     silent = 0
     for line in lines_of(0, pause):
         silent = silent + 1 if line is None else 0
-        told = [f"no frame for {silent} minutes"] if line is None else list(quality.take(line))
-        for it in told:
+        for it in [f"no frame for {silent} minutes"] if line is None else quality.take(line):
             keeper.put(it, quality)
     for it in quality.end():
         keeper.put(it, quality)

@@ -1,14 +1,13 @@
-"""Draws some minutes of a downlink like that of GOES, as frames for `lritstation SHELF receive --input frames`.
-
-There is an earth in four segments, a bulletin and a zip with a bulletin in it, and fill between them. Nothing of it
-comes from a satellite: coasts are a few hundred corners, and the clouds are sums of waves. A frame has 892 bytes, as
-16,384 symbols carry it.
+"""Draws some minutes of a downlink like that of GOES, as frames of 892 bytes on standard output: an earth in four
+segments, a bulletin, another one in a zip, and fill between. Nothing of it comes from a satellite.
 """
 
-from __future__ import annotations
+# Coasts are a few hundred corners, and the clouds are sums of waves.
 
+import collections
 import datetime
 import io
+import itertools
 import math
 import struct
 import zipfile
@@ -134,11 +133,9 @@ class Ground:
         y, x = (latitude + 90) * self.STEPS, (longitude + 180) * self.STEPS
         line, column = int(y), int(x)
         y, x = y - line, x - column
-        low, high = self.rows[line], self.rows[min(line + 1, len(self.rows) - 1)]
-        next_column = min(column + 1, len(low) - 1)
-        return (low[column] * (1 - x) + low[next_column] * x) * (1 - y) + (
-            high[column] * (1 - x) + high[next_column] * x
-        ) * y
+        next_line, next_column = min(line + 1, len(self.rows) - 1), min(column + 1, len(self.rows[line]) - 1)
+        low, high = (row[column] * (1 - x) + row[next_column] * x for row in (self.rows[line], self.rows[next_line]))
+        return low * (1 - y) + high * y
 
 
 def clouds_at(latitude: float, longitude: float) -> float:
@@ -169,10 +166,8 @@ def place_of(column: int, line: int) -> Corner | None:
 def light_at(latitude: float, longitude: float) -> float:
     """The cosine of the sun's height above a place; 0 at night."""
     sun_latitude, sun_longitude = map(math.radians, SUN)
-    height = math.sin(latitude) * math.sin(sun_latitude) + math.cos(latitude) * math.cos(sun_latitude) * math.cos(
-        longitude - sun_longitude
-    )
-    return max(0.0, height)
+    along = math.cos(latitude) * math.cos(sun_latitude) * math.cos(longitude - sun_longitude)
+    return max(0.0, math.sin(latitude) * math.sin(sun_latitude) + along)
 
 
 def grey_at(place: Corner | None, land: Ground, ice: Ground) -> int:
@@ -246,9 +241,7 @@ def framed(text: str) -> bytes:
 def zip_of(name: str, data: bytes) -> bytes:
     out = io.BytesIO()
     with zipfile.ZipFile(out, "w", zipfile.ZIP_DEFLATED) as archive:
-        archive.writestr(
-            zipfile.ZipInfo(name, (WHEN.year, WHEN.month, WHEN.day, WHEN.hour, WHEN.minute, WHEN.second)), data
-        )
+        archive.writestr(zipfile.ZipInfo(name, WHEN.timetuple()[:6]), data)
     return out.getvalue()
 
 
@@ -260,50 +253,43 @@ def zipped_bulletin(text: str) -> bytes:
 # ---- packets and frames
 
 
+def bodies_of(counter: int, proper: bytes) -> list[bytes]:
+    """What the packets carry in which a file is sent."""
+    content = xrit.TRANSPORT.pack(counter % 65536, 8 * len(proper)) + proper
+    return [content[at : at + BODY_BYTES] for at in range(0, len(content), BODY_BYTES)]
+
+
 class Sender:
     """Frames of files. Each file begins a new frame of its channel; counters go on from file to file."""
 
     def __init__(self) -> None:
-        self.files = 0
-        self.counts: dict[tuple[int, ...], int] = {}
-        self.counters: dict[tuple[int, ...], int] = {}
+        self.counts: dict[tuple[int, int], Iterator[int]] = collections.defaultdict(itertools.count)
+        self.counters: dict[int, Iterator[int]] = collections.defaultdict(itertools.count)
 
-    def next_of(self, counters: dict[tuple[int, ...], int], key: tuple[int, ...], modulus: int) -> int:
-        number = counters.get(key, 0)
-        counters[key] = (number + 1) % modulus
-        return number
-
-    def packet(self, channel: int, application: int, flags: int, body: bytes) -> bytes:
-        count = self.next_of(self.counts, (channel, application), COUNT_MODULUS)
-        data = body + checksum(body).to_bytes(2, "big")
-        return PACKET_HEAD.pack(application, flags << 14 | count, len(data) - 1) + data
-
-    def packets(self, channel: int, application: int, proper: bytes) -> Iterator[bytes]:
-        content = xrit.TRANSPORT.pack(self.files % 65536, 8 * len(proper)) + proper
-        self.files += 1
-        bodies = [content[at : at + BODY_BYTES] for at in range(0, len(content), BODY_BYTES)]
+    def packets(self, channel: int, application: int, bodies: list[bytes]) -> Iterator[bytes]:
         for place, body in enumerate(bodies):
             flags = (FIRST if place == 0 else GOING_ON) + (LAST if place == len(bodies) - 1 else GOING_ON)
-            yield self.packet(channel, application, flags, body)
+            count = next(self.counts[channel, application]) % COUNT_MODULUS
+            data = body + checksum(body).to_bytes(2, "big")
+            yield PACKET_HEAD.pack(application, flags << 14 | count, len(data) - 1) + data
 
     def frame(self, channel: int, pointer: int, zone: bytes) -> bytes:
-        counter = self.next_of(self.counters, (channel,), COUNTER_MODULUS)
+        counter = next(self.counters[channel]) % COUNTER_MODULUS
         head = (1 << 14 | SPACECRAFT << 6 | channel).to_bytes(2, "big") + counter.to_bytes(3, "big") + b"\0"
         return head + pointer.to_bytes(2, "big") + zone
 
-    def file(self, channel: int, application: int, proper: bytes) -> Iterator[bytes]:
-        """The frames of a file; an idle packet fills the last one."""
+    def frames(self, channel: int, application: int, bodies: list[bytes]) -> Iterator[bytes]:
+        """The frames of a file in these bodies; an idle packet fills the last one."""
         stream, starts = b"", []
-        for packet in self.packets(channel, application, proper):
+        for packet in self.packets(channel, application, bodies):
             starts.append(len(stream))
             stream += packet
         left = -len(stream) % ZONE_BYTES
         if left:
             left += ZONE_BYTES if left <= PACKET_HEAD.size else 0
             starts.append(len(stream))
-            stream += PACKET_HEAD.pack(IDLE_APPLICATION, ONLY << 14, left - PACKET_HEAD.size - 1) + bytes(
-                left - PACKET_HEAD.size
-            )
+            idle = left - PACKET_HEAD.size
+            stream += PACKET_HEAD.pack(IDLE_APPLICATION, ONLY << 14, idle - 1) + bytes(idle)
         for first in range(0, len(stream), ZONE_BYTES):
             pointer = next((start - first for start in starts if first <= start < first + ZONE_BYTES), NO_START)
             yield self.frame(channel, pointer, stream[first : first + ZONE_BYTES])
@@ -320,11 +306,11 @@ def downlink(minutes: int) -> Iterator[bytes]:
     files.insert(3, (TEXT_CHANNEL, TEXT_APPLICATION, zipped_bulletin(BULLETIN)))
     total = minutes * 60 * SYMBOLS_A_SECOND // SYMBOLS_A_FRAME
     sent = 0
-    for place, file in enumerate(files):
+    for place, (channel, application, proper) in enumerate(files):
         while sent < total * place // len(files):
             yield sender.fill()
             sent += 1
-        for frame in sender.file(*file):
+        for frame in sender.frames(channel, application, bodies_of(place, proper)):
             yield frame
             sent += 1
     for _ in range(sent, total):

@@ -1,8 +1,6 @@
 """Which files are parts of one picture: the segment records of NOAA, of Himawari and GK-2A, and of ELEKTRO. Which form
 a record has, its length says."""
 
-from __future__ import annotations
-
 import re
 import struct
 from collections.abc import Iterable, Iterator
@@ -35,31 +33,24 @@ class Segment(NamedTuple):
 
 def segment_of(file: StoredFile) -> Segment | None:
     """The segment that a file is, by any of the three forms of record, or None."""
-    header = file.header
-    found = header and header.first(xrit.SEGMENT_KIND)
-    structure = header and header.structure
-    if not found or not header or not structure or not header.is_image:
+    found, structure = file.header.first(xrit.SEGMENT_KIND), file.header.structure
+    if not found or not structure or not file.header.is_image:
         return None
-    whose = (file.fields.channel, file.fields.application)
+    key: tuple[object, ...] = (file.fields.channel, file.fields.application)
     if len(found) == NOAA.size:
         image, number, left, top, count, columns, lines = NOAA.unpack(found)
-        return (
-            Segment((*whose, image, count, columns, lines), number, count, left, top, columns, lines) if count else None
-        )
-    band = 0
+        key += image, count, columns, lines
+        return Segment(key, number, count, left, top, columns, lines) if count else None
     if len(found) == NUMBERED.size:
-        number, last, _ = NUMBERED.unpack(found)
-        first = 1
+        (number, last, _), first, band = NUMBERED.unpack(found), 1, 0
     elif len(found) == PLANNED.size:
         _, band, number, first, last, _ = PLANNED.unpack(found)
     else:
         return None
     count = last - first + 1
-    pixels = structure.columns * structure.lines * count
-    if not first <= number <= last or count > MOST_SEGMENTS or pixels > MOST_PIXELS:
+    if not first <= number <= last or count > MOST_SEGMENTS or structure.area * count > MOST_PIXELS:
         return None
-    name = unnumbered(texts.name_of(file), number)
-    key = (*whose, structure.bits, structure.columns, count, band, name)
+    key += structure.bits, structure.columns, count, band, unnumbered(texts.name_of(file), number)
     return Segment(key, number - first, count, 0, None, None, None, first)
 
 
@@ -119,11 +110,9 @@ class Group:
     @property
     def area(self) -> int:
         """The pixels of the whole picture."""
-        structure = self.file.structure
-        if not structure:
-            return 0
+        structure = self.file.header.structure or xrit.Structure(0, 0, 0, 0)
         if not self.segments:
-            return structure.columns * structure.lines
+            return structure.area
         one = self.segments[0]
         return (one.columns or structure.columns) * (one.lines or structure.lines * one.total)
 
@@ -131,6 +120,11 @@ class Group:
     def numbers(self) -> list[int]:
         """The numbers of its files on the shelf."""
         return [part.head.number for part in self.parts]
+
+    @property
+    def rank(self) -> tuple[bool, str, int]:
+        """By which the latest of several is taken: that which lacks nothing, and then the newest one."""
+        return not self.missing, self.file.header.stamped("%Y%m%dT%H%M%S%f"), self.file.number
 
     @property
     def missing(self) -> list[int]:
@@ -159,15 +153,12 @@ class Group:
     def add(self, part: Part) -> bool:
         """Takes a file. False where it belongs to another picture, as this one has its number already. A segment that
         is whole takes the place of a mended one."""
-        old = next(
-            (it for it in self.parts if it.segment and part.segment and it.segment.number == part.segment.number), None
-        )
-        if old is None:
-            self.parts.append(part)
-        elif old.mended and not part.mended:
-            self.parts[self.parts.index(old)] = part
-        elif not (part.mended and not old.mended):
-            return False
+        for place, old in enumerate(self.parts):
+            if old.segment and part.segment and old.segment.number == part.segment.number:
+                if old.mended and not part.mended:
+                    self.parts[place] = part
+                return bool(old.mended) != bool(part.mended)
+        self.parts.append(part)
         return True
 
 
@@ -182,7 +173,7 @@ def groups_of(shelf: Shelf, heads: Iterable[Head]) -> Iterator[Group | Head]:
             groups.append(head)
             continue
         segment = segment_of(file)
-        part = Part(head, shelf.mark(head), segment, file.header.mended if file.header else None)
+        part = Part(head, shelf.mark(head), segment, file.header.mended)
         group = opened.get(segment.key) if segment else None
         if not group or not group.add(part):
             group = Group(shortened(file), texts.name_of(file), [part])
@@ -194,6 +185,6 @@ def groups_of(shelf: Shelf, heads: Iterable[Head]) -> Iterator[Group | Head]:
 
 def shortened(file: StoredFile) -> StoredFile:
     """The file without the pixels of an image, of which many are kept."""
-    if not file.header or not file.header.is_image:
+    if not file.header.is_image:
         return file
     return StoredFile(file.head, file.fields, file.counter, file.proper[: file.header.size], b"")

@@ -1,7 +1,5 @@
 """A page for people with no web server: std's server, for the page and its pictures and nothing else."""
 
-from __future__ import annotations
-
 import http.server
 import os
 import re

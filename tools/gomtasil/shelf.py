@@ -5,16 +5,14 @@ reads a gate before its item sees whole items. Bytes are read in ascending order
 was asked for before a gate.
 """
 
-from __future__ import annotations
-
 import binascii
-import datetime
+import contextlib
 import os
 import struct
-from collections.abc import Iterable, Iterator
+from collections.abc import Callable, Iterable, Iterator
 from dataclasses import dataclass
 from functools import cached_property
-from typing import NamedTuple
+from typing import NamedTuple, Self
 
 from . import xrit
 
@@ -77,7 +75,7 @@ class Fields(NamedTuple):
     channel: int
     application: int
     packets: int
-    frames: tuple[int, int] | None  # of its first and its last packet; None on a shelf of version 1
+    frames: tuple[int, int] | None  # of its first and its last packet; None on a shelf of version 1, or in disorder
     corrected: int  # bytes that were corrected in these frames
 
 
@@ -105,26 +103,13 @@ class StoredFile:
         return self.head.number
 
     @cached_property
-    def header(self) -> xrit.Header | None:
+    def header(self) -> xrit.Header:
         return xrit.header_of(self.proper)
-
-    @property
-    def structure(self) -> xrit.Structure | None:
-        return self.header.structure if self.header else None
-
-    @property
-    def stamp(self) -> datetime.datetime | None:
-        return self.header.stamp if self.header else None
-
-    @property
-    def is_open_image(self) -> bool:
-        """Whether it is an image that isn't encrypted, with a record of its structure."""
-        return bool(self.header and self.structure and self.header.is_image and not self.header.is_encrypted)
 
     @property
     def data(self) -> bytes:
         """What comes after the header; nothing where that has a fault."""
-        return self.proper[self.header.size :] if self.header else b""
+        return self.proper[self.header.size :]
 
 
 def fields_of(item: bytes) -> Fields:
@@ -132,7 +117,7 @@ def fields_of(item: bytes) -> Fields:
     if item[0] == FILE:
         at = 1
         first, last, corrected = ORIGIN.unpack_from(item, at + FIELDS.size)
-        origin = (first, last)
+        origin = (first, last) if first <= last else None
     channel, application, packets, count = FIELDS.unpack_from(item, at)
     return Fields(count, channel, application, packets, origin, corrected)
 
@@ -145,6 +130,13 @@ def file_of(head: Head, item: bytes) -> StoredFile:
     return StoredFile(head, fields, counter, content[xrit.TRANSPORT.size :], item)
 
 
+def item_of(channel: int, application: int, bodies: list[bytes], frame: int = 0) -> bytes:
+    """The item of a file whose packets, of one frame in which nothing was corrected, have these bodies."""
+    fields = FIELDS.pack(channel, application, len(bodies), sum(map(len, bodies))) + ORIGIN.pack(frame, frame, 0)
+    item = bytes([FILE]) + fields + b"".join(len(it).to_bytes(2, "big") for it in bodies) + b"".join(bodies)
+    return item + checksum(item).to_bytes(CHECKSUM_BYTES, "big")
+
+
 def shelf_of(items: Iterable[bytes]) -> bytes:
     """The bytes of a shelf that has these items alone."""
     body = b"".join(bytes([OPEN]) + item for item in items) + b"\0"
@@ -154,10 +146,24 @@ def shelf_of(items: Iterable[bytes]) -> bytes:
 
 def sound(heads: Iterable[Head]) -> Iterator[Head]:
     """Heads up to where the items break off."""
-    try:
+    with contextlib.suppress(ShelfError):
         yield from heads
-    except ShelfError:
-        return
+
+
+class Pieces:
+    """Bytes that are read in pieces, for many short looks in ascending order."""
+
+    def __init__(self, read_on: Callable[[int, int], bytes]):
+        self.read_on = read_on
+        self.start = 0
+        self.data = b""
+
+    def read(self, place: int, count: int) -> bytes:
+        at = place - self.start
+        if at < 0 or at + count > len(self.data):
+            self.data = self.read_on(place, max(count, PIECE_BYTES))
+            self.start, at = place, 0
+        return self.data[at : at + count]
 
 
 class Shelf:
@@ -173,7 +179,7 @@ class Shelf:
             self.close()
             raise
 
-    def __enter__(self) -> Shelf:
+    def __enter__(self) -> Self:
         return self
 
     def __exit__(self, *_: object) -> None:
@@ -184,15 +190,10 @@ class Shelf:
 
     def read(self, place: int, count: int) -> bytes:
         """The bytes from a place on: fewer where the file ends."""
-        parts = []
-        while count:
-            part = os.pread(self.descriptor, count, place)
-            if not part:
-                break
-            parts.append(part)
-            place += len(part)
-            count -= len(part)
-        return b"".join(parts)
+        data = b""
+        while len(data) < count and (part := os.pread(self.descriptor, count - len(data), place + len(data))):
+            data += part
+        return data
 
     def read_capacity(self) -> int:
         header = self.read(0, HEADER_BYTES)
@@ -204,15 +205,10 @@ class Shelf:
 
     def heads(self, gate: int = FIRST_GATE, number: int = 0) -> Iterator[Head]:
         """The heads of the items from a gate on, where the next file has this number."""
-        pieces = Pieces(self)
-        while True:
-            head = self.head_at(pieces, gate, number)
-            if head is None:
-                return
+        pieces = Pieces(self.read)
+        while head := self.head_at(pieces, gate, number):
             yield head
-            gate = head.next_gate
-            if not head.is_discard:
-                number += 1
+            gate, number = head.next_gate, number + (not head.is_discard)
 
     def head_at(self, pieces: Pieces, gate: int, number: int) -> Head | None:
         """The head of the item after a gate, or None where the gate is closed."""
@@ -233,7 +229,7 @@ class Shelf:
 
     def fronts(self, gate: int = FIRST_GATE, number: int = 0, gone: Iterable[int] = ()) -> Iterator[Front]:
         """The fronts of the files from a gate on, without these numbers, up to where the items break off."""
-        pieces, left_out = Pieces(self), frozenset(gone)
+        pieces, left_out = Pieces(self.read), frozenset(gone)
         for head in sound(self.heads(gate, number)):
             if not head.is_discard and head.number not in left_out:
                 yield self.front(head, pieces)
@@ -245,6 +241,10 @@ class Shelf:
         counter, _ = xrit.TRANSPORT.unpack_from(begin)
         has_type = fields.size > xrit.TRANSPORT.size + xrit.TYPE_PLACE
         return Front(head, fields, counter, begin[-1] if has_type else -1)
+
+    def images(self) -> Iterator[Head]:
+        """The heads of the images that aren't discarded, by what stands at their fronts."""
+        return (it.head for it in self.fronts(gone=self.gone()) if it.file_type == xrit.IMAGE_TYPE)
 
     def item(self, head: Head) -> bytes:
         """The bytes of an item, without its gate."""
@@ -276,22 +276,6 @@ class Shelf:
         if not file:
             raise ShelfError(f"file {number} isn't there, is discarded, or has a bad checksum")
         return file
-
-
-class Pieces:
-    """A shelf's bytes, read in pieces, for many short looks in ascending order."""
-
-    def __init__(self, shelf: Shelf):
-        self.shelf = shelf
-        self.start = 0
-        self.data = b""
-
-    def read(self, place: int, count: int) -> bytes:
-        at = place - self.start
-        if at < 0 or at + count > len(self.data):
-            self.data = self.shelf.read(place, max(count, PIECE_BYTES))
-            self.start, at = place, 0
-        return self.data[at : at + count]
 
 
 def discard_head(data: bytes, gate: int) -> Head | None:

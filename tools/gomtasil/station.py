@@ -1,12 +1,14 @@
-"""Whether a station is well: its shelves, its disk and its quality; old shelves that go; and what is told of a
-trouble."""
+"""Prints a line for each folder of shelves. These are troubles: no file for --minutes, more than --lost per cent of the
+last minute's frames lost, no frame restored, no word of the quality for 5 minutes, and the disk or the newest shelf
+full by more than --full per cent. The quality is that of station.sh, in FOLDER/quality; where that isn't there nothing
+is said of it. Shelves that another process has locked stay, and so does the newest one. Status 0: all is well. 1: there
+is a trouble; with --once only where one is new, and once a day.
+"""
 
-from __future__ import annotations
-
+import contextlib
 import fcntl
-import json
 import os
-import re
+import shutil
 import stat
 import time
 from collections.abc import Iterator
@@ -76,22 +78,14 @@ class Found:
 
 def found_in(folder: str) -> list[Found]:
     """The shelves of a folder by the time of their last change, the newest one last. Other files and links are none."""
-    return sorted(looked_for(folder), key=lambda it: (it.changed, it.path))
-
-
-def looked_for(folder: str) -> Iterator[Found]:
+    found = []
     for path in shelves.paths_of(folder):
-        try:
+        with contextlib.suppress(OSError, shelves.ShelfError):
             about = os.lstat(path)
             if stat.S_ISREG(about.st_mode):
                 with Shelf(path) as shelf:
-                    yield Found(path, about.st_size, about.st_mtime, shelf.capacity)
-        except (OSError, shelves.ShelfError):
-            continue
-
-
-def minutes_since(changed: float) -> int:
-    return max(0, int(time.time() - changed) // 60)
+                    found.append(Found(path, about.st_size, about.st_mtime, shelf.capacity))
+    return sorted(found, key=lambda it: (it.changed, it.path))
 
 
 def look_at_shelves(state: State, bounds: Bounds, metrics: Metrics) -> None:
@@ -101,10 +95,10 @@ def look_at_shelves(state: State, bounds: Bounds, metrics: Metrics) -> None:
         return
     newest = found[-1]
     filled = [it for it in found if it.has_files]
-    age = minutes_since(filled[-1].changed if filled else newest.changed)
-    name = os.path.basename(newest.path)
+    seconds = max(0, int(time.time() - (filled or found)[-1].changed))
+    age, name = seconds // 60, os.path.basename(newest.path)
     if filled:
-        metrics.add("last_file_age_seconds", max(0, int(time.time() - filled[-1].changed)), folder=state.folder)
+        metrics.add("last_file_age_seconds", seconds, folder=state.folder)
     metrics.add("shelf_used_percent", newest.full, folder=state.folder, shelf=name)
     state.facts += [f"last file {age} minutes ago" if filled else "no file yet", f"{name} {newest.full} % full"]
     if age > bounds.minutes:
@@ -115,9 +109,8 @@ def look_at_shelves(state: State, bounds: Bounds, metrics: Metrics) -> None:
 
 def used_percent(folder: str) -> int:
     """How full the disk is, as `df` says it."""
-    about = os.statvfs(folder)
-    used = about.f_blocks - about.f_bfree
-    return -(-100 * used // (used + about.f_bavail)) if used + about.f_bavail else 100
+    _, used, free = shutil.disk_usage(folder)
+    return -(-100 * used // (used + free)) if used + free else 100
 
 
 def look_at_disk(state: State, bounds: Bounds, metrics: Metrics) -> None:
@@ -138,8 +131,7 @@ def look_at_quality(state: State, bounds: Bounds, metrics: Metrics) -> None:
         state.troubles["quality"] = f"no word of the quality for {int(age) // 60} minutes"
         return
     with open(path, encoding="ascii", errors="replace") as it:
-        line = it.read(1000)
-    told = re.fullmatch(r"minute \d+ frames (\d+) lost (\d+)(?: corrected ([0-9.]+))?\n", line)
+        told = quality.MINUTE_LINE.fullmatch(it.read(1000).rstrip("\n"))
     frames, lost = (int(told[1]), int(told[2])) if told else (0, 0)
     if not told or frames == lost:
         metrics.add("frames", 0, folder=state.folder)
@@ -157,51 +149,39 @@ def look_at_quality(state: State, bounds: Bounds, metrics: Metrics) -> None:
 # ---- old shelves
 
 
-def is_of_this_week(found: Found) -> bool:
-    """By the week or the day in its name, or by its time."""
-    now = time.gmtime()
-    week = time.strftime("%G-%V", now)
+def weeks_of(found: Found) -> Iterator[str]:
+    """The weeks of a shelf: that of its last change, and those that its name may say, by a week or by a day."""
+    yield week_of(time.gmtime(found.changed))
     label = shelves.label_of(found.path)
-    if re.match(rf"{week}(-|$)", label):
-        return True
-    try:
-        day = time.strptime(label[:10], "%Y-%m-%d")
-        if time.strftime("%G-%V", day) == week:
-            return True
-    except ValueError:
-        pass
-    return time.strftime("%G-%V", time.gmtime(found.changed)) == week
+    yield label[:7]
+    with contextlib.suppress(ValueError):
+        yield week_of(time.strptime(label[:10], "%Y-%m-%d"))
+
+
+def week_of(when: time.struct_time) -> str:
+    return time.strftime("%G-%V", when)
 
 
 def removed(found: Found) -> bool:
     """Removes a shelf, if no process writes to it. The lock is held while it goes."""
-    try:
-        descriptor = os.open(found.path, os.O_RDONLY | os.O_NOFOLLOW)
-    except OSError:
-        return False
-    try:
-        fcntl.flock(descriptor, fcntl.LOCK_EX | fcntl.LOCK_NB)
-        os.unlink(found.path)
-    except OSError:
-        return False
-    finally:
-        os.close(descriptor)
-    program.tell(f"removed {found.path}")
-    return True
+    with contextlib.suppress(OSError):
+        with open(os.open(found.path, os.O_RDONLY | os.O_NOFOLLOW), "rb") as it:
+            fcntl.flock(it, fcntl.LOCK_EX | fcntl.LOCK_NB)
+            os.unlink(found.path)
+        program.tell(f"removed {found.path}")
+        return True
+    return False
 
 
-def remove_old(state: State, bounds: Bounds) -> None:
+def removed_old(folder: str, bounds: Bounds) -> list[str]:
     """Removes shelves by their age, and then the oldest ones until enough of the disk is free; never the newest one,
-    nor one that is in use."""
-    count = 0
-    found = found_in(state.folder)[:-1]
-    for it in found:
+    nor one that is in use. What is said of it."""
+    this_week, gone = week_of(time.gmtime()), 0
+    for it in found_in(folder)[:-1]:
         is_old = bounds.remove_days is not None and time.time() - it.changed > bounds.remove_days * DAY_SECONDS
-        is_needed = bounds.keep_free is not None and 100 - used_percent(state.folder) < bounds.keep_free
-        if (is_needed or (is_old and not is_of_this_week(it))) and removed(it):
-            count += 1
-    if count:
-        state.facts.append(f"{count} old shelves removed")
+        is_needed = bounds.keep_free is not None and 100 - used_percent(folder) < bounds.keep_free
+        gone += (is_needed or (is_old and this_week not in weeks_of(it))) and removed(it)
+    return [f"{gone} old shelves removed"] if gone else []
 
 
 # ---- what is told
@@ -212,27 +192,21 @@ class Memory:
 
     def __init__(self, folder: str):
         self.path = os.path.join(folder, STATE, "state.json")
-        kept = self.read()
-        try:
-            self.totals = Totals(kept.get("totals", {}))
-            self.told = {str(kind) for kind in kept.get("told", [])}
-            self.told_at = float(kept.get("told_at", 0))
-        except (TypeError, ValueError, AttributeError):
-            program.tell(f"{self.path} can't be read, so it begins anew")
-            self.totals, self.told, self.told_at = Totals({}), set(), 0.0
+        if not folders.read_kept(self.path, self.take):
+            if os.path.exists(self.path):
+                program.tell(f"{self.path} can't be read, so it begins anew")
+            self.take({})
 
-    def read(self) -> dict[str, Any]:
-        try:
-            with open(self.path, encoding="utf-8") as it:
-                kept = json.load(it)
-            return kept if isinstance(kept, dict) else {}
-        except (OSError, ValueError):
-            return {}
+    def take(self, kept: dict[str, Any]) -> bool:
+        self.totals = Totals(kept.get("totals", {}))
+        self.told = {str(kind) for kind in kept.get("told", [])}
+        self.told_at = float(kept.get("told_at", 0))
+        return True
 
     def write(self) -> None:
-        kept = {"totals": self.totals.kept(), "told": sorted(self.told), "told_at": self.told_at}
-        os.makedirs(os.path.dirname(self.path), exist_ok=True)
-        folders.write_whole(self.path, json.dumps(kept).encode())
+        folders.write_kept(
+            self.path, {"totals": self.totals.kept(), "told": sorted(self.told), "told_at": self.told_at}
+        )
 
     def is_news(self, state: State) -> bool:
         """Whether a trouble is to be told: one that is new, or after a day."""
@@ -249,9 +223,8 @@ def look_at(folder: str, bounds: Bounds, metrics: Metrics | None = None) -> Stat
     if not os.path.isdir(folder):
         state.troubles["folder"] = "no folder"
         return state
-    look_at_shelves(state, bounds, metrics)
-    look_at_disk(state, bounds, metrics)
-    look_at_quality(state, bounds, metrics)
+    for look in (look_at_shelves, look_at_disk, look_at_quality):
+        look(state, bounds, metrics)
     return state
 
 
@@ -269,10 +242,7 @@ def watch(folders_: list[str], bounds: Bounds, prometheus: str | None, once: boo
     """Looks at each folder, and prints a line of it. 1 where there is a trouble; with `once` where it is news."""
     metrics, status = Metrics(), 0
     for folder in folders_:
-        state = State(folder)
-        if os.path.isdir(folder):
-            remove_old(state, bounds)
-        gone = state.facts
+        gone = removed_old(folder, bounds)
         state = look_at(folder, bounds, metrics)
         state.facts += gone
         metrics.add("trouble", int(bool(state.troubles)), folder=folder)

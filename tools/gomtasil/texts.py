@@ -1,7 +1,5 @@
 """What is inside files that are no images: texts, zips, pictures as they were sent; and the headings of bulletins."""
 
-from __future__ import annotations
-
 import io
 import itertools
 import re
@@ -10,7 +8,7 @@ import unicodedata
 import zipfile
 from typing import NamedTuple
 
-from . import folder, xrit
+from . import folder
 from .shelf import StoredFile
 
 MOST_ZIP_FILES = 256
@@ -63,8 +61,7 @@ def readable(data: bytes) -> str:
 
 def name_of(file: StoredFile) -> str:
     """The annotation of a file as text."""
-    name = readable(file.header.annotation).strip() if file.header else ""
-    return name or f"file {file.number}"
+    return readable(file.header.annotation).strip() or f"file {file.number}"
 
 
 def ending_of(data: bytes) -> str | None:
@@ -82,10 +79,6 @@ def opened(data: bytes, is_declared_text: bool = False) -> tuple[str, bytes]:
     return BINARY_ENDING, data
 
 
-def is_declared_text(header: xrit.Header) -> bool:
-    return header.file_type in (xrit.GTS_TYPE, xrit.TEXT_TYPE)
-
-
 def heading_of(text: str) -> Heading | None:
     """The heading of a bulletin, which stands in its first lines."""
     found = HEADING.search(text[:HEADED_CHARACTERS])
@@ -93,15 +86,6 @@ def heading_of(text: str) -> Heading | None:
 
 
 # ---- zips
-
-
-def member_data(archive: zipfile.ZipFile, member: zipfile.ZipInfo, room: int) -> bytes:
-    """The bytes of a member, if they are at most this many."""
-    with archive.open(member) as it:
-        data = it.read(room + 1)
-    if len(data) > room:
-        raise BadZip("it is too large when it is unpacked")
-    return data
 
 
 def is_file(member: zipfile.ZipInfo) -> bool:
@@ -125,8 +109,11 @@ def members_of(data: bytes) -> list[tuple[str, bytes]]:
             for member in filter(is_file, archive.infolist()):
                 if not is_plain(member):
                     raise BadZip("a file in it is encrypted, or packed in another way")
-                found.append((member.filename, member_data(archive, member, room)))
+                with archive.open(member) as it:
+                    found.append((member.filename, it.read(room + 1)))
                 room -= len(found[-1][1])
+                if room < 0:
+                    raise BadZip("it is too large when it is unpacked")
     except BadZip:
         raise
     except Exception as fault:  # (zipfile has errors of many kinds for bytes that are no zip)
@@ -154,15 +141,7 @@ def unused(name: str, names: dict[str, bytes]) -> str:
 
 
 def inside(file: StoredFile) -> dict[str, bytes]:
-    """What is in a file that is no image, by names with endings: itself, or the files of a zip. Nothing where it can't
-    be opened."""
-    header = file.header
-    if not header or header.is_encrypted:
-        return {}
-    if not file.data.startswith(ZIP_SIGNATURE):
-        ending, data = opened(file.data, is_declared_text(header))
-        return {ending: data}
-    try:
+    """What is in a file that is no image, by names with endings: itself by its ending alone, or the files of a zip."""
+    if file.data.startswith(ZIP_SIGNATURE):
         return unzipped(file.data)
-    except BadZip:
-        return {}
+    return dict([opened(file.data, file.header.is_declared_text)])

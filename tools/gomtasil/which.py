@@ -1,13 +1,13 @@
-"""Which line code a recording has: the four are tried over its first 4,000,000 bytes, and where none locks over as many
-from its middle. Where none does, what the file looks like instead, and the line that leads it to soft symbols."""
-
-from __future__ import annotations
+"""Tries the four line codes over the first 4,000,000 bytes of a recording, and where none locks over as many from its
+middle. The last line has the options to give to `receive`. Where it has another form, what it looks like is told, and a
+line that leads it to soft symbols. Status 0: one locks. 1: none does.
+"""
 
 import collections
-import itertools
 import os
 import struct
 import subprocess
+from collections.abc import Callable
 from typing import NamedTuple
 
 from . import program
@@ -39,13 +39,8 @@ class Tried(NamedTuple):
 
 def tried(symbols: bytes, options: tuple[str, ...]) -> Tried:
     done = subprocess.run([program.name(), "-", "decode", *options], input=symbols, stdout=subprocess.PIPE, check=True)
-    corrected = 0
-    last: list[bytes] = []
-    for line in done.stdout.splitlines():
-        words = line.split()
-        if words[0] == b"window":
-            corrected += LOST_BYTES if words[6] == b"lost" else sum(map(int, words[7:11]))
-        last = words
+    *windows, last = map(bytes.split, done.stdout.splitlines())
+    corrected = sum(LOST_BYTES if it[6] == b"lost" else sum(map(int, it[7:11])) for it in windows)
     numbers = dict(zip(last[::2], last[1::2]))
     return Tried(options, int(numbers[b"frames"]), int(numbers[b"restored"]), corrected)
 
@@ -59,11 +54,6 @@ def best_of(symbols: bytes, is_told: bool) -> Tried | None:
             print(f"{' '.join(found[-1].options)}: frames {found[-1].frames} restored {found[-1].restored}", flush=True)
     best = max(found, key=lambda it: it.restored)
     return best if best.restored else None
-
-
-def told_best(data: bytes, start: int) -> Tried | None:
-    print(f"bytes {start} to {start + len(data)} of the recording:", flush=True)
-    return best_of(data, True)
 
 
 def piles(data: bytes) -> bool:
@@ -81,10 +71,23 @@ def are_unsigned(symbols: bytes, best: Tried) -> bool:
     return there < here or (there == here and piles(symbols[:LOOKED_BYTES]))
 
 
-def unpacked(data: bytes) -> bytes:
+def of_bits(data: bytes) -> bytes:
+    """The symbols of bits of a byte each; nothing where the bytes are others."""
+    return data.translate(SYMBOLS[0] + SYMBOLS[1] + bytes(254)) if set(data[:LOOKED_BYTES]) <= {0, 1} else b""
+
+
+def of_packed_bits(data: bytes) -> bytes:
     """The symbols of bits, eight a byte, most significant first."""
     table = [b"".join(SYMBOLS[it >> place & 1] for place in range(7, -1, -1)) for it in range(256)]
     return b"".join(map(table.__getitem__, data[: TRIED_BYTES // 8]))
+
+
+# Other forms of symbols: what they are called, how symbols are made of them here, and by a line.
+FORMS: tuple[tuple[str, Callable[[bytes], bytes], str], ...] = (
+    ("unsigned bytes", lambda data: data.translate(FLIPPED), UNSIGNED),
+    ("bits, eight a byte", of_packed_bits, PACKED),
+    ("bits, a byte of 0 or 1 each", of_bits, BITS),
+)
 
 
 # ---- what a file looks like
@@ -135,13 +138,10 @@ def form_of(data: bytes) -> str:
     if are_floats(data):
         return "it looks like floats of 32 bits, and not like a signed byte a symbol"
     quarters = [data[at::4] for at in range(4)]
-    if (
-        apart(quarters[0], quarters[1]) > 15
-        and apart(quarters[0], quarters[2]) < 15
-        and apart(quarters[1], quarters[3]) < 15
-    ):
+    differ = [apart(quarters[0], it) > 15 for it in quarters[1:]]
+    if differ[:2] == [True, False] and apart(quarters[1], quarters[3]) < 15:
         return "it looks like integers of 16 bits, and not like a signed byte a symbol"
-    if any(apart(quarters[0], it) > 15 for it in quarters[1:]):
+    if any(differ):
         return "it looks like values of several bytes, and not like a signed byte a symbol"
     return "it looks like a byte a value: perhaps it isn't of symbols, or the signal is too weak"
 
@@ -158,29 +158,23 @@ def read_part(path: str, start: int) -> bytes:
 def which(path: str) -> int:
     """Tells of a recording. 0 where a line code locks, and else 1."""
     size = os.path.getsize(path)
-    starts = [0] + ([size // 2] if size > 2 * TRIED_BYTES else [])
-    for start in starts:
+    for start in [0, size // 2] if size > 2 * TRIED_BYTES else [0]:
         data = read_part(path, start)
-        best = told_best(data, start)
+        print(f"bytes {start} to {start + len(data)} of the recording:", flush=True)
+        best = best_of(data, True)
         if best:
-            if are_unsigned(data, best):
-                print(f"it looks like unsigned bytes: lead it through\n  {UNSIGNED}")
-            print(f"locks: {' '.join(best.options)}")
-            return 0
+            return told(best, FORMS[0] if are_unsigned(data, best) else None)
     data = read_part(path, 0)
-    forms = ((data.translate(FLIPPED), "unsigned bytes", UNSIGNED), (unpacked(data), "bits, eight a byte", PACKED))
-    for symbols, what, line in itertools.chain(forms, bits_form(data)):
-        best = best_of(symbols, False)
+    for form in FORMS:
+        best = best_of(form[1](data), False)
         if best:
-            print(f"it looks like {what}: lead it through\n  {line}\nlocks: {' '.join(best.options)}")
-            return 0
+            return told(best, form)
     print(f"nothing locks\n{form_of(data[:LOOKED_BYTES])}")
     return 1
 
 
-def bits_form(data: bytes) -> list[tuple[bytes, str, str]]:
-    """Bits of a byte each, as signed bytes."""
-    if not set(data[:LOOKED_BYTES]) <= {0, 1}:
-        return []
-    symbols = data.translate(bytes([SYMBOLS[0][0], SYMBOLS[1][0]]) + bytes(254))
-    return [(symbols, "bits, a byte of 0 or 1 each", BITS)]
+def told(best: Tried, form: tuple[str, Callable[[bytes], bytes], str] | None) -> int:
+    if form:
+        print(f"it looks like {form[0]}: lead it through\n  {form[2]}")
+    print(f"locks: {' '.join(best.options)}")
+    return 0

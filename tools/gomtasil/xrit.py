@@ -1,8 +1,6 @@
 """The headers of mission files, by CGMS 03 and the documents of the services: records, names, stamps, and the mark of a
 file that lacks packets. docs/FORMATS.md has a table of the records."""
 
-from __future__ import annotations
-
 import datetime
 import re
 import struct
@@ -23,6 +21,7 @@ LOSSLESS_BYTES = 7
 NAVIGATION = struct.Struct(">32siiii")  # name, column factor, line factor, column offset, line offset
 FIXED_LENGTHS = {STRUCTURE_KIND: 9, NAVIGATION_KIND: 51, STAMP_KIND: 10}
 IMAGE_TYPE, GTS_TYPE, TEXT_TYPE = 0, 1, 2
+FAULTY = -1  # in place of a type, where the header has a fault
 NOT_COMPRESSED, LOSSLESS = 0, 1
 RUN = rb"\d{1,7}(?:-\d{1,7})?"  # the place of a packet that stands in, or the first and the last of several
 MENDED = re.compile(rb"gomtasil mended (" + RUN + rb"(?: " + RUN + rb"){0,1022}) of (\d{1,7})")
@@ -36,6 +35,11 @@ class Structure(NamedTuple):
     columns: int
     lines: int
     compression: int  # 0 none, 1 lossless, 2 lossy
+
+    @property
+    def area(self) -> int:
+        """The pixels."""
+        return self.columns * self.lines
 
 
 class Navigation(NamedTuple):
@@ -59,7 +63,8 @@ class Mended(NamedTuple):
 
 
 class Header(NamedTuple):
-    """The header of a mission file: its type, its bytes, and the kinds and contents of its records after the first."""
+    """The header of a mission file: its type, its bytes, and the kinds and contents of its records after the first.
+    One that has a fault has no record, and the whole file are its bytes."""
 
     file_type: int
     size: int
@@ -89,14 +94,23 @@ class Header(NamedTuple):
         return self.file_type == IMAGE_TYPE
 
     @property
+    def is_declared_text(self) -> bool:
+        return self.file_type in (GTS_TYPE, TEXT_TYPE)
+
+    @property
     def is_lossless(self) -> bool:
         """Whether a record says how lines are coded without loss."""
         return any(is_lossless_record(*it) for it in self.records)
 
     @property
-    def is_encrypted(self) -> bool:
-        """Whether a key record has a byte that isn't 0."""
-        return any(kind == KEY_KIND and any(contents) for kind, contents in self.records)
+    def is_open(self) -> bool:
+        """Whether it has no fault, and no key record has a byte that isn't 0, as that of an encrypted file."""
+        return self.file_type != FAULTY and not any(kind == KEY_KIND and any(it) for kind, it in self.records)
+
+    @property
+    def is_open_image(self) -> bool:
+        """Whether it is of an image that isn't encrypted, with a record of its structure."""
+        return self.is_open and self.is_image and self.structure is not None
 
     @property
     def stamp(self) -> datetime.datetime | None:
@@ -107,6 +121,10 @@ class Header(NamedTuple):
         if form != STAMP_FORM or milliseconds >= DAY_MILLISECONDS:
             return None
         return STAMP_BEGIN + datetime.timedelta(days=days, milliseconds=milliseconds)
+
+    def stamped(self, form: str) -> str:
+        """The time stamp in a form, or nothing."""
+        return f"{self.stamp:{form}}" if self.stamp else ""
 
     @property
     def mended(self) -> Mended | None:
@@ -135,20 +153,19 @@ def is_lossless_record(kind: int, contents: bytes) -> bool:
     return kind == LOSSLESS_KIND and RECORD.size + len(contents) == LOSSLESS_BYTES
 
 
-def header_of(proper: bytes) -> Header | None:
-    """The header of a mission file, or None where it has a fault ("Header records")."""
+def header_of(proper: bytes) -> Header:
+    """The header of a mission file ("Header records")."""
+    faulty = Header(FAULTY, len(proper), [])
     if len(proper) < PRIMARY.size:
-        return None
+        return faulty
     kind, length, file_type, size, _ = PRIMARY.unpack_from(proper)
     if kind != PRIMARY_KIND or length != PRIMARY.size or not PRIMARY.size <= size <= len(proper):
-        return None
+        return faulty
     records, at = [], PRIMARY.size
     while at < size:
-        if at + RECORD.size > size:
-            return None
-        kind, length = RECORD.unpack_from(proper, at)
-        if length < RECORD.size or at + length > size or FIXED_LENGTHS.get(kind, length) != length:
-            return None
+        kind, length = RECORD.unpack_from(proper, at) if at + RECORD.size <= size else (0, 0)
+        if not RECORD.size <= length <= size - at or FIXED_LENGTHS.get(kind, length) != length:
+            return faulty
         records.append((kind, proper[at + RECORD.size : at + length]))
         at += length
     return Header(file_type, size, records)

@@ -95,8 +95,8 @@ def numbered(number, count, line):
     return record(128, struct.pack(">BBH", number, count, line))
 
 
-def planned(channel, number, first, last):
-    return record(128, struct.pack(">hBHHHb", 19002, channel, number, first, last, 3))
+def planned(channel, number, first, last, craft=19002, form=3):
+    return record(128, struct.pack(">hBHHHb", craft, channel, number, first, last, form))
 
 
 def navigation(longitude, factor, column, line):

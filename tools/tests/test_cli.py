@@ -47,7 +47,7 @@ class Missing(Case):
     def test_without_pillow(self):
         hidden = self.without("PIL")
         words = [("contents", "my.shelf", "x"), ("pictures", "my.shelf", "x"), ("page", "my.shelf", "x")]
-        for call in [*words, ("overlay", "my.shelf", "1", "x")]:
+        for call in [*words, ("overlay", "my.shelf", "1", "x"), ("geo", "my.shelf", "1", "x")]:
             _, said = self.call(*call, status=1, env=hidden)
             self.assertEqual(said, "gomtasil: Pillow is missing: apt-get install python3-pil\n")
         self.assertFalse(os.path.exists("x"))

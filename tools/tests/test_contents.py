@@ -81,7 +81,7 @@ class Contents(Case):
 
 def drawn_images():
     draws = random.Random(2)
-    for bits, columns, lines in [(8, 40, 30), (10, 64, 20), (12, 34, 7), (16, 20, 20)]:
+    for bits, columns, lines in [(8, 40, 30), (10, 64, 20), (12, 34, 7), (16, 20, 20), (5, 32, 9), (7, 24, 5)]:
         places = ((x, y) for y in range(lines) for x in range(columns))
         values = [min(2**bits - 1, (x * 3 + y * 5) * 2**bits // 400 + draws.randrange(3)) for x, y in places]
         names = [record(4, b"IMAGE_%d" % bits), record(3, b"$HALFTONE")]
@@ -104,7 +104,7 @@ class Coded(Case):
         for number, it in enumerate(self.plain):
             self.call("plain", "coded.shelf", str(number + len(self.plain)), "plain")
             self.assertEqual(read("plain"), it)
-        self.call("plain", "coded.shelf", "5", "never", status=1, env=self.without)
+        self.call("plain", "coded.shelf", str(len(self.plain)), "never", status=1, env=self.without)
         self.call("plain", "coded.shelf", "99", "never", status=1)
         self.assertFalse(os.path.exists("never"), "nothing stands after a refusal")
 
@@ -119,6 +119,7 @@ class Coded(Case):
     @needs_pillow
     def test_without_the_program(self):
         _, said = self.call("contents", "coded.shelf", "bare", env=self.without)
-        self.assertEqual(said.count("/nowhere/lritstation exports no image of it"), 4)
+        count = len(self.plain)
+        self.assertEqual(said.count("/nowhere/lritstation exports no image of it"), count)
         endings = sorted(os.path.splitext(path)[1] for path in taken("bare"))
-        self.assertEqual(endings, 4 * [".lrit"] + 4 * [".png"])
+        self.assertEqual(endings, count * [".lrit"] + count * [".png"])

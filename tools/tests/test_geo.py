@@ -27,19 +27,22 @@ METRES = 35785831.0 * math.pi / 180 * 65536 / FACTOR
 
 
 def tags_of(path):
-    """The tags of a TIFF, and what its one strip has."""
+    """The tags of a TIFF with the least significant byte first, and what its one strip has."""
     data = read(path)
-    (at,) = struct.unpack(">I", data[4:8])
-    (count,) = struct.unpack(">H", data[at : at + 2])
+    head, at = struct.unpack("<4sI", data[:8])
+    assert head == b"II*\0"
+    (count,) = struct.unpack("<H", data[at : at + 2])
     tags = {}
     for place in range(at + 2, at + 2 + 12 * count, 12):
-        tag, kind, number = struct.unpack(">HHI", data[place : place + 8])
+        tag, kind, number = struct.unpack("<HHI", data[place : place + 8])
         letter, size = {2: ("s", 1), 3: ("H", 2), 4: ("I", 4), 12: ("d", 8)}[kind]
-        start = place + 8 if size * number <= 4 else int.from_bytes(data[place + 8 : place + 12], "big")
-        tags[tag] = struct.unpack_from(f">{number}{letter}", data, start)
+        start = place + 8 if size * number <= 4 else int.from_bytes(data[place + 8 : place + 12], "little")
+        tags[tag] = struct.unpack_from(f"<{number}{letter}", data, start)
+    assert (tags[259], tags[262], len(tags[273])) == ((8,), (1,), 1), "deflated, 0 is black, one strip"
     return tags, zlib.decompress(data[tags[273][0] : tags[273][0] + tags[279][0]])
 
 
+@needs_pillow
 class Placed(Case):
     def setUp(self):
         super().setUp()
@@ -64,7 +67,7 @@ class Placed(Case):
         for number in (0, 1):
             self.call("geo", "places.shelf", str(number), f"{number}.tif", "--alone")
             tags, data = tags_of(f"{number}.tif")
-            pixels = [int.from_bytes(data[at : at + 1 + number], "big") for at in range(0, len(data), 1 + number)]
+            pixels = [int.from_bytes(data[at : at + 1 + number], "little") for at in range(0, len(data), 1 + number)]
             self.assertEqual(pixels, [it * (25 if number else 1) for it in self.values])
             self.near(tags, -3.5, 2.5 - 5 * number)
         for number in (2, 3, 4, 5, 6):

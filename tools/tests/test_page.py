@@ -232,6 +232,15 @@ class Kept(Case):
         self.assertLess(os.path.getsize("page/index.html"), 30_000)
         self.assertIn("segments missing: 2 to 65535", text_of("page"))
 
+    def test_frames_in_disorder_hide_nothing(self):
+        """The frames of a damaged item: the last one before the first one, and further off than any clock."""
+        most = 2**64 - 1
+        origins = [(5, 4, 0), (most, 0, most), (0, most, most), (most, most, 0), (0, 3, 7)]
+        write("my.shelf", shelf_of([added(it, bulletin(it), 1, 100, row) for it, row in enumerate(origins)]))
+        for words in ((), ("--rate", "1")):
+            self.call("page", "my.shelf", "page", *words)
+            self.assertEqual(text_of("page").count("GALE WARNING"), 5)
+
     def test_a_huge_picture_is_not_drawn(self):
         write("huge.shelf", shelf_of([added(0, image(8, 1, 1, b"x", 0, [noaa(1, 0, 0, 2, 16000, 16000)]))]))
         self.call("page", "huge.shelf", "page")

@@ -2,12 +2,11 @@
 
 import json
 import os
-import struct
 
 from gomtasil import images, segments, xrit
 from gomtasil.shelf import Shelf
 
-from .support import Case, added, image, needs_pillow, noaa, numbered, packed_bits, record, shelf_of, write
+from .support import Case, added, image, needs_pillow, noaa, numbered, packed_bits, planned, record, shelf_of, write
 
 CASES = os.path.join(os.path.dirname(os.path.abspath(__file__)), "segments.json")
 
@@ -21,7 +20,8 @@ def records_of(file):
     if "numbered" in file:
         found.append(numbered(*file["numbered"]))
     if "planned" in file:
-        found.append(record(128, struct.pack(">hBHHHb", *file["planned"])))
+        craft, *numbers, form = file["planned"]
+        found.append(planned(*numbers, craft, form))
     if "record" in file:
         found.append(record(128, bytes.fromhex(file["record"])))
     if file.get("encrypted"):

@@ -7,7 +7,7 @@ import shutil
 import subprocess
 import time
 
-from .support import Case, Writer, added, read, shelf_of, text_file, write
+from .support import Case, Writer, added, read, reference, shelf_of, text_file, write
 
 DAY = 86_400
 
@@ -92,10 +92,8 @@ class Troubles(Watched):
 
     def test_a_full_shelf_and_no_shelf(self):
         data = bytearray(read(self.shelf))
-        import binascii
-
         data[9:17] = (2 * len(data)).to_bytes(8, "big")
-        data[17:19] = binascii.crc_hqx(bytes(data[1:17]), 0xFFFF).to_bytes(2, "big")
+        data[17:19] = reference.crc(bytes(data[1:17])).to_bytes(2, "big")
         write(self.shelf, bytes(data))
         self.looks(1, ".shelf is 50 % full", "--full", "49")
         os.unlink(self.shelf)

@@ -15,12 +15,12 @@ cond_min : (a b : ℕ) (t : Bool) → leb a b ≡ t → cond t a b ≡ min a b
 cond_min a b true e = let l : a ≤ b = leb-true a b e in omega arith
 cond_min a b false e = let l : b < a = leb-false a b e in omega arith
 
-one_test : (t : Bool) → nat_eq (cond t 1 0) 1 ≡ t
+pub one_test : (t : Bool) → nat_eq (cond t 1 0) 1 ≡ t
 one_test false = refl
 one_test true = refl
 
 -- the second is below the first, where the first is not at most the second
-not_leb : (a b : ℕ) → not (leb a b) ≡ ltb b a
+pub not_leb : (a b : ℕ) → not (leb a b) ≡ ltb b a
 not_leb a b =
     ⊎_elim
     (λ (below : b < a). ap not (lt-leb a b below) ∙ sym (lt-ltb b a below))
@@ -55,19 +55,19 @@ module _ (w : Width) (xs ys : List ℕ) (l : length xs ≡ 32) (r : length ys �
   turned_tops =
       map (top (hbits w)) (map (λ m. 2 ^ bits w - 1 - m) (zip2 (λ a b. cond (leb a b) (2 ^ bits w - 1) 0) xs ys))
 
-  tops_are : tops ≡ firsts
+  pub tops_are : tops ≡ firsts
   tops_are = tops_compared w leb xs ys
 
   turned_are : turned_tops ≡ seconds
   turned_are = ap (map (top (hbits w))) (all_turned w leb xs ys) ∙ tops_compared w (λ a b. not (leb a b)) xs ys
 
-  long : length firsts ≡ 32
+  pub long : length firsts ≡ 32
   long = length-zip2 leb xs ys (l ∙ sym r) ∙ l
 
   also_long : length seconds ≡ 32
   also_long = length-zip2 (λ a b. not (leb a b)) xs ys (l ∙ sym r) ∙ l
 
-  first_at : (k : ℕ) → k < 32 → get_or firsts k false ≡ leb (get_or xs k 0) (get_or ys k 0)
+  pub first_at : (k : ℕ) → k < 32 → get_or firsts k false ≡ leb (get_or xs k 0) (get_or ys k 0)
   first_at k h = get_or-zip2 leb xs ys k 0 0 false (omega arith) (omega arith)
 
   second_at : (k : ℕ) → k < 32 → get_or seconds k false ≡ ltb (get_or ys k 0) (get_or xs k 0)

@@ -29,11 +29,11 @@ module _ (low high : List ℕ) (size : length low ≡ 32) where
 
 -- the costs of a butterfly
 module _ (costs : List ℕ) (k : ℕ) (l : k < 32) where
-  far_up : branch_by costs (2 * k + 1) ≡ branch_by costs (2 * k + 64)
+  pub far_up : branch_by costs (2 * k + 1) ≡ branch_by costs (2 * k + 64)
   unfolding branch_by
   far_up = ap (λ p. get_or costs p 0) (sym (next_is k l) ∙ upper_is k l)
 
-  near_up : branch_by costs (2 * k) ≡ branch_by costs (2 * k + 65)
+  pub near_up : branch_by costs (2 * k) ≡ branch_by costs (2 * k + 65)
   unfolding branch_by
   near_up = ap (λ p. get_or costs p 0) (both_is k l)
 
@@ -77,26 +77,32 @@ module _
       odd_decided = odd_second k l ∙ rw (d_cost k l, e_cost k l) refl;
     }
 
--- lanes of which a number was taken off, both halves side by side
+-- what holds of the lanes of both halves, side by side
 module _
-    (off : ℕ)
+    (R : ℕ → ℕ → Type 0)
     (low high new_low new_high : List ℕ)
     (size : length low ≡ 32)
     (new_size : length new_low ≡ 32)
-    (lows : (k : ℕ) → k < 32 → slice_index low k ≡ off + slice_index new_low k)
-    (highs : (k : ℕ) → k < 32 → slice_index high k ≡ off + slice_index new_high k)
+    (lows : (k : ℕ) → k < 32 → R (slice_index low k) (slice_index new_low k))
+    (highs : (k : ℕ) → k < 32 → R (slice_index high k) (slice_index new_high k))
   where
-    from_low : (s : ℕ) → s < 32 → slice_index (low ++ high) s ≡ off + slice_index (new_low ++ new_high) s
-    from_low s l = omega (arith, low_at low high size s l, low_at new_low new_high new_size s l, lows s l)
+    abbrev Both : ℕ → Type 0
+    Both s = R (slice_index (low ++ high) s) (slice_index (new_low ++ new_high) s)
 
-    from_high : (k : ℕ) → k < 32 → slice_index (low ++ high) (k + 32) ≡ off + slice_index (new_low ++ new_high) (k + 32)
-    from_high k l = omega (arith, high_at low high size k, high_at new_low new_high new_size k, highs k l)
+    from_low : (s : ℕ) → s < 32 → Both s
+    from_low s l =
+        subst (λ x. R x (slice_index (new_low ++ new_high) s)) (sym (low_at low high size s l))
+        (subst (R (slice_index low s)) (sym (low_at new_low new_high new_size s l)) (lows s l))
 
-    pub both_from : (s : ℕ) → s < 64 → slice_index (low ++ high) s ≡ off + slice_index (new_low ++ new_high) s
-    both_from s l =
+    from_high : (k : ℕ) → k < 32 → Both (k + 32)
+    from_high k l =
+        subst (λ x. R x (slice_index (new_low ++ new_high) (k + 32))) (sym (high_at low high size k))
+        (subst (R (slice_index high k)) (sym (high_at new_low new_high new_size k)) (highs k l))
+
+    pub both_halves : (s : ℕ) → s < 64 → R (slice_index (low ++ high) s) (slice_index (new_low ++ new_high) s)
+    both_halves s l =
         ⊎_elim
         (λ (below : s < 32). from_low s below)
         (λ (above : 32 ≤ s). let same : s - 32 + 32 ≡ s = omega arith in
-        subst (λ z. slice_index (low ++ high) z ≡ off + slice_index (new_low ++ new_high) z) same
-        (from_high (s - 32) (omega arith)))
+        subst Both same (from_high (s - 32) (omega arith)))
         (order s 32)

@@ -1,8 +1,10 @@
-//! What the four pairs of symbols cost in a step, from tables with a row for each symbol. A row is one load, where the
-//! compiler else puts a vector together lane by lane.
+//! What a step costs sixteen states, from tables with a row of lanes for each symbol. A row is loaded as a whole, where
+//! the compiler else puts a vector together lane by lane.
 
-ghost use Rattle.std.specs.Prelude.{◌≡◌, ◌+◌, ◌-◌, ◌<◌, ◌∷◌, [], true, false, not};
+ghost use Rattle.std.specs.Prelude.{◌≡◌, ◌+◌, ◌-◌, ◌*◌, ◌<◌, ℕ, true, false, not, length, slice_index};
+ghost use Rattle.lr_conv.specs.Convolution.{first_of_seven, second_of_seven};
 ghost use Rattle.lr_trellis.specs.Path.{symbol_cost};
+ghost use Rattle.lr_lanes.specs.Lanes.{lowered, state_of};
 
 use lr_conv::LineCode;
 use std::simd::prelude::*;
@@ -17,47 +19,71 @@ fn row_of(symbol: i8) -> usize
     (i64::from(symbol) + 128) as usize
 }
 
-/// What the first symbols of the standard's pairs 00, 01, 10 and 11 cost against a symbol.
+/// What the first symbols of the steps with the level 0 cost against a symbol, less half of what both bits cost.
 #[inline(always)]
-pub(crate) fn first_costs(symbol: i8) -> u16x4
+pub(crate) fn first_costs(symbol: i8) -> u16x16
     ensures sum { symbol_cost false symbol + symbol_cost true symbol ≡ 254 }
-    ensures costs { result ≡
-        symbol_cost false symbol ∷ symbol_cost false symbol ∷ symbol_cost true symbol ∷ symbol_cost true symbol ∷ [] }
+    ensures size { length result ≡ 16 }
+    ensures value { (j : ℕ) → j < 16 →
+        slice_index result j ≡ lowered 127 (symbol_cost (first_of_seven (2 * state_of j)) symbol) }
 {
     let row = row_of(symbol);
-    u16x4::from_array(FIRST_COSTS[row])
+    u16x16::from_array(FIRST_COSTS.rows[row])
 }
 
-/// What their second symbols cost against a symbol of a line code.
+/// What their second symbols cost against a symbol of a line code, less as much.
 #[inline(always)]
-pub(crate) fn second_costs(line: LineCode, symbol: i8) -> u16x4
+pub(crate) fn second_costs(line: LineCode, symbol: i8) -> u16x16
     ensures sum { symbol_cost (not line.inverted) symbol + symbol_cost line.inverted symbol ≡ 254 }
-    ensures costs { result ≡
-        symbol_cost (not line.inverted) symbol ∷ symbol_cost line.inverted symbol ∷
-        symbol_cost (not line.inverted) symbol ∷ symbol_cost line.inverted symbol ∷ [] }
+    ensures size { length result ≡ 16 }
+    ensures value { (j : ℕ) → j < 16 →
+        slice_index result j ≡ lowered 127 (symbol_cost (second_of_seven line (2 * state_of j)) symbol) }
 {
     let row = row_of(symbol);
-    u16x4::from_array(SECOND_COSTS[usize::from(line.inverted)][row])
+    u16x16::from_array(SECOND_COSTS[usize::from(line.inverted)].rows[row])
+}
+
+/// What a 0 costs less 127, in sixteen bits: half of what both bits cost is taken off, by adding 2^16 less it.
+macro_rules! zero {
+    ($zero:literal) => {
+        ((65_409u32 + $zero) % 65_536) as u16
+    };
+}
+
+/// What a 1 costs less 127, by what a 0 costs: 254 less that, and 65,409.
+macro_rules! one {
+    ($zero:literal) => {
+        ((65_663u32 - $zero) % 65_536) as u16
+    };
 }
 
 /// A row of the first symbols, by what a 0 costs.
 macro_rules! first_row {
-    ($zero:literal) => {
-        [$zero, $zero, 254 - $zero, 254 - $zero]
+    ($z:literal) => {
+        [
+            zero!($z), one!($z), one!($z), zero!($z), one!($z), zero!($z), zero!($z), one!($z),
+            zero!($z), one!($z), one!($z), zero!($z), one!($z), zero!($z), zero!($z), one!($z),
+        ]
     };
 }
 
 /// A row of the second symbols of the inverted line code.
 macro_rules! inverted_row {
-    ($zero:literal) => {
-        [$zero, 254 - $zero, $zero, 254 - $zero]
+    ($z:literal) => {
+        [
+            one!($z), one!($z), zero!($z), zero!($z), zero!($z), zero!($z), one!($z), one!($z),
+            zero!($z), zero!($z), one!($z), one!($z), one!($z), one!($z), zero!($z), zero!($z),
+        ]
     };
 }
 
 /// A row of the second symbols of the other one.
 macro_rules! plain_row {
-    ($zero:literal) => {
-        [254 - $zero, $zero, 254 - $zero, $zero]
+    ($z:literal) => {
+        [
+            zero!($z), zero!($z), one!($z), one!($z), one!($z), one!($z), zero!($z), zero!($z),
+            one!($z), one!($z), zero!($z), zero!($z), zero!($z), zero!($z), one!($z), one!($z),
+        ]
     };
 }
 
@@ -104,8 +130,27 @@ macro_rules! rows {
     };
 }
 
-/// For each symbol twice what a 0 costs, and twice what a 1 costs.
-static FIRST_COSTS: [[u16; 4]; 256] = rows!(first_row);
+/// A row of lanes for each symbol. The number beside them aligns them as it is aligned itself, to sixteen bytes. So
+/// eight lanes never cross the end of a line of the processor's cache.
+struct Rows {
+    rows: [[u16; 16]; 256],
+    aligned: u128,
+}
 
-/// For each symbol in turn what a 1 and what a 0 costs; and for the inverted line code what a 0 and what a 1 costs.
-static SECOND_COSTS: [[[u16; 4]; 256]; 2] = [rows!(plain_row), rows!(inverted_row)];
+/// For each symbol what the first symbols of the sixteen steps cost.
+static FIRST_COSTS: Rows = Rows {
+    rows: rows!(first_row),
+    aligned: 0,
+};
+
+/// For each symbol what the second symbols cost, and the same for the inverted line code.
+static SECOND_COSTS: [Rows; 2] = [
+    Rows {
+        rows: rows!(plain_row),
+        aligned: 0,
+    },
+    Rows {
+        rows: rows!(inverted_row),
+        aligned: 0,
+    },
+];

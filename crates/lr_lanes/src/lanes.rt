@@ -10,13 +10,16 @@ use std::simd::prelude::*;
 /// The most that a step costs: 254 for each of its two symbols.
 pub(crate) const STEP_COST: u16 = lr_trellis::STEP_COST as u16;
 
+/// Half of that. What a step with one level costs is as far above it as the step with the other level is below.
+pub(crate) const HALF_STEP: u16 = STEP_COST / 2;
+
 /// The pairs of symbols of the steps with the level 0 from the states 0 to 31.
-pub(crate) const LEVEL_0_PAIRS: [usize; 32] = [
+const LEVEL_0_PAIRS: [usize; 32] = [
     1, 3, 2, 0, 2, 0, 1, 3, 1, 3, 2, 0, 2, 0, 1, 3, 0, 2, 3, 1, 3, 1, 0, 2, 0, 2, 3, 1, 3, 1, 0, 2,
 ];
 
 /// The pairs of their steps with the level 1.
-pub(crate) const LEVEL_1_PAIRS: [usize; 32] = [
+const LEVEL_1_PAIRS: [usize; 32] = [
     2, 0, 1, 3, 1, 3, 2, 0, 2, 0, 1, 3, 1, 3, 2, 0, 3, 1, 0, 2, 0, 2, 3, 1, 3, 1, 0, 2, 0, 2, 3, 1,
 ];
 
@@ -69,13 +72,13 @@ pub(crate) fn lesser_of(first: u32x32, second: u32x32) -> (u32x32, u64)
 }
 
 /// Where the states 0 to 31 stand among the even states and, after these, the odd ones.
-pub(crate) const LOW_PLACES: [usize; 32] = [
+const LOW_PLACES: [usize; 32] = [
     0, 32, 1, 33, 2, 34, 3, 35, 4, 36, 5, 37, 6, 38, 7, 39, 8, 40, 9, 41, 10, 42, 11, 43, 12, 44,
     13, 45, 14, 46, 15, 47,
 ];
 
 /// Where the states 32 to 63 stand there.
-pub(crate) const HIGH_PLACES: [usize; 32] = [
+const HIGH_PLACES: [usize; 32] = [
     16, 48, 17, 49, 18, 50, 19, 51, 20, 52, 21, 53, 22, 54, 23, 55, 24, 56, 25, 57, 26, 58, 27, 59,
     28, 60, 29, 61, 30, 62, 31, 63,
 ];

@@ -12,8 +12,15 @@
 //! `nearest_narrow_lanes` has lanes of sixteen bits, so a vector has twice as many states, and it is the faster one.
 //! Its first six steps are those of `nearest_lanes`. After them every state has been reached from every other one, so
 //! the costs of two states differ by at most 3,048. From there on a lane holds the cost of its state less a number that
-//! is the same for all lanes, so a comparison of two lanes is that of their costs. Where the first lane is near the end
-//! of its sixteen bits, all lanes are lowered, and the number grows by as much.
+//! is the same for all lanes, so a comparison of two lanes is that of their costs.
+//!
+//! Each step takes 254 off all lanes, half of the most that it costs. What a level then costs is the negative of what
+//! the other one costs, so a step has one vector of costs, which is added to lanes and taken off others. It comes from
+//! two tables. Every 32 steps the lanes are led back to where they were at first, and the number changes by as much.
+//!
+//! These lanes aren't in the order of the states: of each 32 the second and the third eight have changed places
+//! (`lane_of`). Where a register has sixteen lanes, the costs are then the same for both registers of a vector, and its
+//! instructions that join two registers half by half give what a step leads to, and the word, in the right order.
 //!
 //! The two have one contract. The first is the plainer text, and what it answers is compared with the second's.
 #![tactic(auto)]

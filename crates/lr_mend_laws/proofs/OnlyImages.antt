@@ -326,11 +326,11 @@ first_is ps p file e =
 
 -- ---- what an opening says of the header
 
-record Read (proper : List ℕ) (read : Result Header HeaderFault) : Type 0 where
-  header : Header
-  is : read ≡ Ok header
-  shape : Shape
-  is_shape : shape_of header ≡ Ok shape
+pub record Read (proper : List ℕ) (read : Result Header HeaderFault) : Type 0 where
+  pub header : Header
+  pub is : read ≡ Ok header
+  pub shape : Shape
+  pub is_shape : shape_of header ≡ Ok shape
 
 shape_read : (proper : List ℕ) (header : Header) (rest : List ℕ) (r : Result Shape ImageFault) → shape_of header ≡ r →
     (opening : Opening) → opening_by r rest ≡ Some opening → Read proper (Ok header)
@@ -344,7 +344,7 @@ opening_read proper (Ok header) opening e =
     shape_read proper header (drop (length header.bytes) proper) (shape_of header) refl opening e
 opening_read proper (Err fault) opening e = cc
 
-opened_read : (body : List ℕ) (opening : Opening) → opening_of body ≡ Some opening →
+pub opened_read : (body : List ℕ) (opening : Opening) → opening_of body ≡ Some opening →
     Read (drop 10 body) (header_of (drop 10 body))
 unfolding opening_of
 opened_read body opening e = opening_read (drop 10 body) (header_of (drop 10 body)) opening e

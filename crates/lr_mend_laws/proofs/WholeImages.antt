@@ -3,33 +3,30 @@ use Rattle.std.proofs.Common.{◌≡◌, ℕ, zero, suc, ◌+◌, ◌-◌, ◌*�
 use Rattle.std.proofs.Common.{ltb, ◌&&◌}
 use Rattle.std.proofs.Common.{◌||◌, Option, Some, None, List, [], ◌∷◌, ◌++◌, length, map, drop, refl, sym, ap, ◌∙◌}
 use Rattle.std.proofs.Common.{subst}
-use Rattle.std.proofs.Common.{arith, append_assoc, length-append, length-drop, Result, Ok, Err, inl, inr, max, min}
+use Rattle.std.proofs.Common.{arith, append_assoc, length-drop, Result, Ok, Err, inl, inr, max, min}
 use Rattle.std.specs.Prelude.{find, option_and_then, option_to_list}
-use Rattle.std.specs.List.{concat, fold}
+use Rattle.std.specs.List.{concat}
 use Rattle.std.specs.Option.{option_map}
 use Rattle.std.proofs.lemmas.Bool.Decides.{nat_tests}
 use Rattle.std.proofs.lemmas.List.{append-nil, drop-append-le, map-append}
 use Rattle.std.proofs.lemmas.Nat.{le-div}
-use Rattle.std.proofs.lemmas.List.Elements.{filter-append}
-use Rattle.std.proofs.lemmas.List.Sums.{fold-append}
 use Rattle.std.proofs.Math.Nat.{div-add-mod', mod-lt, mul-le-mul_right, mul_comm, suc-mul, zero-mul}
 use Rattle.std.specs.Prelude.{replicate}
 use Rattle.std.proofs.lemmas.List.{length-replicate}
 use Rattle.lr_packet.specs.Verdict.{Good}
 use Rattle.lr_bits.specs.File.{File, bytes_of, proper_of}
-use Rattle.lr_file.specs.Files.{bodies_of, file_at, file_from, is_file, last_stretches, packets_of_key, size_of}
-use Rattle.lr_file.specs.Standing.{is_open, open_from}
+use Rattle.lr_file.specs.Files.{file_at, file_from, is_file, last_stretches, packets_of_key, size_of}
+use Rattle.lr_file.specs.Standing.{open_from}
 use Rattle.lr_file.specs.Steps.{is_next}
 use Rattle.lr_file.proofs.Histories.{packets_of_key-own}
-use Rattle.lr_file.proofs.Stretches.{and_left, and_right, is_file-one, is_open-one, longer}
+use Rattle.lr_file.proofs.Stretches.{and_left, and_right, is_file-one, longer}
 use Rattle.lr_mend.specs.Mending.{Filling, Image, begins_file, can_fill, count_after, filler_body, fillers_before}
 use Rattle.lr_mend.specs.Mending.{fillers_from, filling_before, filling_of, gap_before, gap_of, image_with, open_image}
 use Rattle.lr_mend.specs.Mending.{continued_image, goes_on as goes_on_with, image_begun_by, next_image, filler_units}
 use Rattle.lr_mend.proofs.Fillers.{fillers_before-not}
 use Rattle.lr_mend.proofs.StayingFiles.{heard, heard-more}
 use Rattle.lr_headers.proofs.Readings.{headers_are_read}
-use Rattle.lr_mend.proofs.FewFillers.{same_self}
-use Rattle.lr_mend.proofs.StayingFiles.{ends, file_stretch-end, goes_on, open_stretch, open_stretch-end}
+use Rattle.lr_mend.proofs.StayingFiles.{ends, file_stretch-end, open_stretch}
 use Rattle.std.specs.Prelude.{is_some}
 use Rattle.lr_headers.specs.Headers.{header_of}
 use Rattle.lr_headers.specs.Tiling.{Header, IsHeaderOf}
@@ -57,163 +54,17 @@ use Rattle.lr_mend.specs.MendedFiles.{files_of_gap, mended_file, mended_files_af
 use Rattle.std.specs.Prelude.{All}
 use Rattle.std.proofs.lemmas.List.Elements.{All-append, All-nil}
 use Rattle.lr_mend.specs.Seams.{seams_of}
+use Rattle.lr_mend_laws.specs.SentImages.{since_and, since_beginning as since}
 use Rattle.lr_mend_laws.specs.WholeImages.{MadeEnds}
 use Rattle.lr_mend_laws.proofs.OnlyImages.{SameLatest, all_of, same_latest}
 use Rattle.lr_mend.specs.Marks.{marked, whole_file}
 use Rattle.lr_mend.specs.declared.marks.MarkedFile.{MarkedFile}
 use Rattle.lr_mend_laws.proofs.MarkedImages.{marked_images}
-use Rattle.lr_mend_laws.proofs.OnlyImages.{Grows, first_is, grows, latest, latest-one, latest-own, no_beginning}
-
-abbrev is_of_key : ℕ → ℕ → Good → Bool
-is_of_key vc apid p = eqb p.vc vc && eqb p.apid apid
-
--- ---- the packets since the latest beginning
-
-abbrev since_and : List Good → Good → List Good
-since_and s p = cond (begins_file p) (p ∷ []) (s ++ p ∷ [])
-
-abbrev since : ℕ → ℕ → List Good → List Good
-since vc apid ps = fold since_and [] (packets_of_key vc apid ps)
-
-since-one : (vc apid : ℕ) (ps : List Good) (p : Good) (own : Bool) → is_of_key vc apid p ≡ own →
-    since vc apid (ps ++ p ∷ []) ≡ cond own (since_and (since vc apid ps) p) (since vc apid ps)
-since-one vc apid ps p true is =
-    ap (fold since_and []) (filter-append (is_of_key vc apid) ps (p ∷ [])
-    ∙ ap (λ (b : Bool). packets_of_key vc apid ps ++ cond b (p ∷ []) []) is)
-    ∙ fold-append since_and [] (packets_of_key vc apid ps) (p ∷ [])
-since-one vc apid ps p false is =
-    ap (fold since_and []) (filter-append (is_of_key vc apid) ps (p ∷ [])
-    ∙ ap (λ (b : Bool). packets_of_key vc apid ps ++ cond b (p ∷ []) []) is
-    ∙ append-nil (packets_of_key vc apid ps))
-
-since-own : (ps : List Good) (p : Good) → since p.vc p.apid (ps ++ p ∷ []) ≡ since_and (since p.vc p.apid ps) p
-since-own ps p = since-one p.vc p.apid ps p true (same_self p.vc p.apid)
-
--- an open stretch is these
-abbrev AreSince : List Good → Type 0
-AreSince qs = (s : List Good) → open_stretch qs ≡ Some s → s ≡ fold since_and [] qs
-
-begun_since : (s : List Good) (p : Good) → begins_file p ≡ true → p ∷ [] ≡ since_and s p
-begun_since s p is = sym (ap (λ (b : Bool). cond b (p ∷ []) (s ++ p ∷ [])) is)
-
-on_since : (s t : List Good) (p : Good) → begins_file p ≡ false → s ≡ t → s ++ p ∷ [] ≡ since_and t p
-on_since s t p none same =
-    ap (λ l. l ++ p ∷ []) same ∙ sym (ap (λ (b : Bool). cond b (p ∷ []) (t ++ p ∷ [])) none)
-
-first_begins : (p : Good) → eqb p.flags 1 ≡ true → begins_file p ≡ true
-first_begins p one = ap (λ (b : Bool). b || eqb p.flags 3) one
-
-only_begins : (p : Good) → eqb p.flags 3 ≡ true → begins_file p ≡ true
-only_begins p three = ap (λ (b : Bool). eqb p.flags 1 || b) three ∙ or_true (eqb p.flags 1)
-  where
-    or_true : (b : Bool) → (b || true) ≡ true
-    or_true true = refl
-    or_true false = refl
-
-since_next : (qs : List Good) (p : Good) → AreSince qs → AreSince (qs ++ p ∷ [])
-unfolding Grows
-since_next qs p are s e =
-    let cases = grows (goes_on p) p (is_open (p ∷ [])) (open_stretch qs) s (sym (open_stretch-end qs p) ∙ e) in
-    elim cases as (λ _. s ≡ since_and (fold since_and [] qs) p) [
-      | inl alone ↦
-          alone.1 ∙ begun_since (fold since_and [] qs) p
-          (first_begins p (and_left (eqb p.flags 1) _ (sym (is_open-one p) ∙ alone.0)))
-      | inr on ↦
-          on.1.1.1 ∙ on_since on.0 (fold since_and [] qs) p
-          (no_beginning p 0 (and_left (eqb p.flags 0) (is_next (open_from on.0) p) on.1.1.0) refl refl)
-          (are on.0 on.1.0)
-    ]
-    ∙ sym (fold-append since_and [] qs (p ∷ []))
-
-since_after : (before later : List Good) → AreSince before → AreSince (before ++ later)
-since_after before [] are = subst AreSince (sym (append-nil before)) are
-since_after before (p ∷ later) are =
-    subst AreSince (append_assoc before (p ∷ []) later)
-    (since_after (before ++ p ∷ []) later (since_next before p are))
-
-are_since : (qs : List Good) → AreSince qs
-are_since qs = since_after [] qs (λ s e. cc)
-
--- the bodies of a file are theirs
-bodies_from : (vc apid : ℕ) (o : Option (List Good)) (file : File) (t : List Good) →
-    option_map (file_from vc apid) o ≡ Some file → ((s : List Good) → o ≡ Some s → s ≡ t) →
-    file.bodies ≡ bodies_of t
-bodies_from vc apid None file t e same = cc
-bodies_from vc apid (Some s) file t e same =
-    let is : file_from vc apid s ≡ file = cc in
-    sym (ap (λ (f : File). f.bodies) is) ∙ ap bodies_of (same s refl)
-
-pub file_bodies : (ps : List Good) (p : Good) (file : File) → file_at ps p ≡ Some file →
-    file.bodies ≡ bodies_of (since p.vc p.apid (ps ++ p ∷ []))
-unfolding file_at Grows
-file_bodies ps p file e =
-    let qs = packets_of_key p.vc p.apid ps in
-    let found = sym (ap (λ l. option_map (file_from p.vc p.apid) (find is_file (last_stretches l)))
-    (packets_of_key-own ps p)
-    ∙ ap (option_map (file_from p.vc p.apid)) (file_stretch-end qs p)) ∙ e in
-    bodies_from p.vc p.apid (longer (ends p) p (is_file (p ∷ [])) (open_stretch qs)) file
-    (since p.vc p.apid (ps ++ p ∷ [])) found
-    (λ s is. elim (grows (ends p) p (is_file (p ∷ [])) (open_stretch qs) s is)
-    as (λ _. s ≡ since_and (since p.vc p.apid ps) p) [
-      | inl alone ↦
-          alone.1 ∙ begun_since (since p.vc p.apid ps) p
-          (only_begins p (and_left (eqb p.flags 3) _ (and_left _ _ (sym (is_file-one p) ∙ alone.0))))
-      | inr on ↦
-          on.1.1.1 ∙ on_since on.0 (since p.vc p.apid ps) p
-          (no_beginning p 2 (and_left (eqb p.flags 2) (is_next (open_from on.0) p) (and_left _ _ on.1.1.0)) refl refl)
-          (are_since qs on.0 on.1.0)
-    ]
-    ∙ sym (since-own ps p))
-
--- ---- how many bytes they have
-
-size_of-append : (xs ys : List Good) → size_of (xs ++ ys) ≡ size_of xs + size_of ys
-size_of-append [] ys = omega arith
-size_of-append (x ∷ xs) ys =
-    omega (
-      arith,
-      size_of-append xs ys,
-      length-append x.body (concat (bodies_of (xs ++ ys))),
-      length-append x.body (concat (bodies_of xs)),
-    )
-
-size_of-one : (p : Good) → size_of (p ∷ []) ≡ length p.body
-size_of-one p = ap length (append-nil p.body)
-
-filler_begins_none : (b : Bool) → (eqb (cond b 2 0) 1 || eqb (cond b 2 0) 3) ≡ false
-filler_begins_none true = refl
-filler_begins_none false = refl
-
--- fillers of the key are more of them
-since_fillers : (filling : Filling) (n count : ℕ) (ps : List Good) →
-    size_of (since filling.vc filling.apid (ps ++ fillers_from filling n count))
-    ≡ size_of (since filling.vc filling.apid ps) + n * length filling.body
-unfolding fillers_from
-since_fillers filling zero count ps =
-    ap (λ (l : List Good). size_of (since filling.vc filling.apid l)) (append-nil ps)
-    ∙ (let e : size_of (since filling.vc filling.apid ps)
-    ≡ size_of (since filling.vc filling.apid ps) + 0 * length filling.body = omega arith in e)
-since_fillers filling (suc n) count ps =
-    let first : Good = record {
-      vc = filling.vc;
-      apid = filling.apid;
-      flags = cond (filling.ends && eqb n 0) 2 0;
-      count = count;
-      body = filling.body;
-    } in
-    let old = since filling.vc filling.apid ps in
-    let none : begins_file first ≡ false = filler_begins_none (filling.ends && eqb n 0) in
-    let now : since filling.vc filling.apid (ps ++ first ∷ []) ≡ old ++ first ∷ [] =
-    since-own ps first ∙ ap (λ (b : Bool). cond b (first ∷ []) (old ++ first ∷ [])) none in
-    let here : size_of (since filling.vc filling.apid (ps ++ first ∷ [])) ≡ size_of old + length filling.body =
-    ap size_of now ∙ size_of-append old (first ∷ []) ∙ ap (λ k. size_of old + k) (size_of-one first) in
-    let rest = since_fillers filling n (count_after count) (ps ++ first ∷ []) in
-    let more : suc n * length filling.body ≡ length filling.body + n * length filling.body =
-    omega (arith, suc-mul n (length filling.body)) in
-    ap (λ (l : List Good). size_of (since filling.vc filling.apid l))
-    (sym (append_assoc ps (first ∷ []) (fillers_from filling n (count_after count))))
-    ∙ rest ∙ (let e : size_of (since filling.vc filling.apid (ps ++ first ∷ [])) + n * length filling.body
-    ≡ size_of old + suc n * length filling.body = omega (arith, here, more) in e)
+use Rattle.lr_mend_laws.proofs.OnlyImages.{Grows, first_is, grows, latest, latest-one, latest-own}
+use Rattle.lr_mend_laws.proofs.SinceBeginning.{is_of_key, since-one, since-own, begun_since}
+use Rattle.lr_mend_laws.proofs.SinceBeginning.{first_begins}
+use Rattle.lr_mend_laws.proofs.SinceBeginning.{file_bodies, size_of-append, size_of-one}
+use Rattle.lr_mend_laws.proofs.SinceBeginning.{filler_begins_none, since_fillers}
 
 -- ---- how many bytes an image needs
 
@@ -313,7 +164,7 @@ body_length image p plain =
 unit_is : (image : Image) (p : Good) → image.coded ≡ false → filler_units image p ≡ max 1 (length (filling_of image p))
 unit_is image p plain = ap (λ (b : Bool). max 1 (units_in b (filling_of image p))) plain
 
-some_filling : (most : ℕ) (image : Image) (p : Good) (k : ℕ) → fillers_before most image p ≡ suc k →
+pub some_filling : (most : ℕ) (image : Image) (p : Good) (k : ℕ) → fillers_before most image p ≡ suc k →
     0 < length (filling_of image p)
 unfolding can_fill
 some_filling most image p k many = by_can (can_fill image p) refl
@@ -323,7 +174,8 @@ some_filling most image p k many = by_can (can_fill image p) refl
         let some = and_left (ltb 0 (length (filling_of image p))) _ can in grind (arith, nat_tests, some)
     by_can false can = absurd (omega (arith, many, fillers_before-not most image p can))
 
-units_same : (most : ℕ) (image : Image) (p : Good) → image.coded ≡ false → (n : ℕ) → fillers_before most image p ≡ n →
+pub units_same : (most : ℕ) (image : Image) (p : Good) → image.coded ≡ false → (n : ℕ) →
+    fillers_before most image p ≡ n →
     filler_units image p * n ≡ n * length (filler_body image p)
 units_same most image p plain zero none = omega arith
 units_same most image p plain (suc k) many =
@@ -336,7 +188,7 @@ units_same most image p plain (suc k) many =
 
 -- ---- one packet more
 
-begins_with : (p : Good) (image : Image) (k : Bool) (o : Option Opening) →
+pub begins_with : (p : Good) (image : Image) (k : Bool) (o : Option Opening) →
     cond k (option_map (image_begun_by p) o) None ≡ Some image →
     (opening : Opening) × ((o ≡ Some opening) × (image ≡ image_begun_by p opening))
 begins_with p image true None e = cc
@@ -348,7 +200,7 @@ goes_with : (p : Good) (old image : Image) (n : ℕ) (k : Bool) → cond k (Some
 goes_with p old image n true e = let h : image ≡ image_with old n p = cc in h
 goes_with p old image n false e = cc
 
-continued : (most : ℕ) (p : Good) (o : Option Image) (image : Image) → continued_image most o p ≡ Some image →
+pub continued : (most : ℕ) (p : Good) (o : Option Image) (image : Image) → continued_image most o p ≡ Some image →
     (old : Image) × ((o ≡ Some old) × (image ≡ image_with old (fillers_before most old p) p))
 continued most p None image e = cc
 continued most p (Some old) image e =
@@ -588,7 +440,7 @@ abbrev Whole : MarkedFile → Type 0
 Whole m = 0 < m.fillers → (picture : Picture) × IsImageOf m.file picture
 
 -- a packet with other flags than 2 or 3 ends no file
-ending_flags : (ps : List Good) (p : Good) (file : File) → p.flags ≡ 0 → file_at ps p ≡ Some file → ⊥
+pub ending_flags : (ps : List Good) (p : Good) (file : File) → p.flags ≡ 0 → file_at ps p ≡ Some file → ⊥
 unfolding file_at Grows
 ending_flags ps p file none e =
     let qs = packets_of_key p.vc p.apid ps in
@@ -719,7 +571,7 @@ module _ (filling : Filling) (begin : Good) (need : ℕ) (has : HasNeed begin.bo
 
 -- ---- the gap of an image that is over
 
-over_enough : (wanted unit n : ℕ) → 0 < unit → n ≡ max 1 ((wanted + unit - 1) / unit) → wanted ≤ unit * n
+pub over_enough : (wanted unit n : ℕ) → 0 < unit → n ≡ max 1 ((wanted + unit - 1) / unit) → wanted ≤ unit * n
 over_enough wanted unit n some is =
     let q = (wanted + unit - 1) / unit in
     let parts : q * unit + (wanted + unit - 1) % unit ≡ wanted + unit - 1 = div-add-mod' (wanted + unit - 1) unit in
@@ -733,7 +585,7 @@ if_many true m k e = refl
 if_many false m k e = absurd (omega (arith, e))
 
 -- where fillers come of an image that is over, they are as many as it needs
-number_is : (most : ℕ) (image : Image) (p : Good) (k : ℕ) → fillers_before most image p ≡ suc k →
+pub number_is : (most : ℕ) (image : Image) (p : Good) (k : ℕ) → fillers_before most image p ≡ suc k →
     is_over image p ≡ true → fillers_before most image p ≡ needed_before image p
 unfolding fillers_before
 number_is most image p k many over =

@@ -24,7 +24,7 @@ pub record CanBeCut (file : File) (layout : Layout) : Type 0 where
   pub enough : HasEnough layout.shape.structure layout.shape.lossless (data_field file layout.header_bytes)
 
 -- no more lines were given than there are, and each strip has one at least
-pub record IsWithin (file : File) (s : Structure) (now : Giving) : Type 0 where
+pub record GivesWithin (file : File) (s : Structure) (now : Giving) : Type 0 where
   pub lines : now.lines ≤ s.lines
   pub strips : now.strips ≤ now.lines
   pub place : IsPlaceIn file now.place
@@ -45,7 +45,7 @@ pub record GivingStep : Type 0 where
 pub record GivesOne (file : File) (s : Structure) (step : GivingStep) (strip : StripSource) : Type 0 where
   pub first : step.before ≡ strip ∷ step.after
   pub count : step.new.strips ≡ step.old.strips + 1
-  pub within : IsWithin file s step.new
+  pub within : GivesWithin file s step.new
 
 -- or there was none
 abbrev pub GivesStrip : File → Structure → GivingStep → Option StripSource → Type 0

@@ -6,7 +6,7 @@ use Rattle.lr_headers.specs.declared.fields.Structure.{Structure}
 use Rattle.lr_image.specs.declared.fault.ImageFault.{ImageFault}
 use Rattle.lr_image.specs.declared.layout.Layout.{Layout}
 use Rattle.lr_image.specs.Images.{HasLayout}
-use Rattle.lr_render.specs.Giving.{CanBeCut, IsWithin, strips_left}
+use Rattle.lr_render.specs.Giving.{CanBeCut, GivesWithin, strips_left}
 use Rattle.lr_render.specs.Making.{StripsMake}
 use Rattle.lr_render.specs.Plans.{PlanView}
 use Rattle.lr_render.specs.Strips.{IsStrip}
@@ -50,7 +50,7 @@ pub record IsPlan (file : File) (layout : Layout) (giving : Giving) (keeping : K
   pub has_layout : HasLayout file layout
   pub cut : CanBeCut file layout
   pub strips : All (IsStripOf layout.shape.structure) (strips_of file layout)
-  pub within : IsWithin file layout.shape.structure giving
+  pub within : GivesWithin file layout.shape.structure giving
   pub high : layout.shape.structure.lines ≤ 65535
   pub few_kept : keeping.strips ≤ giving.strips
   pub few_given : giving.strips ≤ length (strips_of file layout)

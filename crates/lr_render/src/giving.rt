@@ -4,7 +4,7 @@ ghost use Rattle.std.specs.Prelude.{◌≡◌, ◌-◌, [], Some, None, IfOk, On
 ghost use Rattle.lr_image.specs.Places.{pieces_at};
 ghost use Rattle.lr_image.specs.Images.{data_field};
 ghost use Rattle.lr_image.specs.Shapes.{IsCoding};
-ghost use Rattle.lr_render.specs.Giving.{CanBeCut, GivesStrip, IsWithin, strips_left};
+ghost use Rattle.lr_render.specs.Giving.{CanBeCut, GivesStrip, GivesWithin, strips_left};
 ghost use Rattle.lr_render.specs.Tiling.{coded_strips, strips_after};
 
 use crate::cut::{coded_strip, next_lines, plain_strip};
@@ -34,7 +34,7 @@ impl Giving {
         layout: Layout,
     ) -> Result<Option<Strip>, NoMemory>
         requires cut { CanBeCut file.now layout }
-        requires within { IsWithin file.now layout.shape.structure self.old }
+        requires within { GivesWithin file.now layout.shape.structure self.old }
         ensures ok { IfOk result (GivesStrip file.now layout.shape.structure (record {
           old = self.old;
           new = self.new;
@@ -58,7 +58,7 @@ impl Giving {
     ) -> Result<Option<Strip>, NoMemory>
         requires cut { CanBeCut file.now layout }
         requires plain { layout.shape.lossless ≡ None }
-        requires within { IsWithin file.now layout.shape.structure self.old }
+        requires within { GivesWithin file.now layout.shape.structure self.old }
         ensures ok { IfOk result (GivesStrip file.now layout.shape.structure (record {
           old = self.old;
           new = self.new;
@@ -90,7 +90,7 @@ impl Giving {
     ) -> Result<Option<Strip>, NoMemory>
         requires cut { CanBeCut file.now layout }
         requires coded { layout.shape.lossless ≡ Some lossless }
-        requires within { IsWithin file.now layout.shape.structure self.old }
+        requires within { GivesWithin file.now layout.shape.structure self.old }
         ensures ok { IfOk result (GivesStrip file.now layout.shape.structure (record {
           old = self.old;
           new = self.new;

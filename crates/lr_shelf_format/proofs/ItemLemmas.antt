@@ -22,7 +22,8 @@ use Rattle.lr_shelf_format.specs.declared.record.RecordHead.{RecordHead}
 use Rattle.lr_shelf_format.proofs.NumberLemmas.{AreBytes, AreBytes-drop, bytes_of_two, fields_back, first_one}
 use Rattle.lr_shelf_format.proofs.NumberLemmas.{origin_back, eight_low}
 use Rattle.lr_shelf_format.proofs.RecordLemmas.{IsFile-from, IsHead-file, body_of-from, file_from-body}
-use Rattle.lr_shelf_format.proofs.RecordLemmas.{head_of-fields, head_of_file-from, length-body_of, origin_of_bytes-bytes}
+use Rattle.lr_shelf_format.proofs.RecordLemmas.{head_of-fields, head_of_file-from, length-body_of}
+use Rattle.lr_shelf_format.proofs.RecordLemmas.{origin_of_bytes-bytes}
 
 -- ---- heads
 

@@ -23,6 +23,7 @@ returns-in-Ok g c input workers most leads =
     loaded_run (world_of g.S.Source g.D.Disk g.O.Sink) c.args.mend input workers most
     (outside c.args.source.now c.args.disk.now c.args.out.now) c.load.new.disk c.load.result
     c.load.ensures g.met.D.Disk.only_now c.in-Ok.shelf
-    (given c.load.result c.shelf_answer.result c.shelf_answer.ensures c.in-Ok.shelf c.in-Ok.is) (outside c.receive_onto.new.source
+    (given c.load.result c.shelf_answer.result c.shelf_answer.ensures c.in-Ok.shelf c.in-Ok.is)
+    (outside c.receive_onto.new.source
     c.receive_onto.new.disk c.receive_onto.new.out) _
     (c.receive_onto.ensures input most (leeway_for input workers) leads)

@@ -35,7 +35,8 @@ pub returns-in-NoMemory : goal.returns-in-NoMemory
 returns-in-NoMemory g c =
     rw (sym c.in-Ok.ensures.bytes)
     (withdrawn g.D.Disk g.O.Sink c.in-Ok.symbols.items c.args.disk.now c.init.new.disk c.args.out.now c.init.result
-    c.init.ensures (given c.init.result c.shelf_answer.result c.shelf_answer.ensures tt c.in-Ok-shelf_answer.is) c.fill.new.disk c.fill.new.out c.in-NoMemory.ensures _ _ c.withdraw.ensures.kind
+    c.init.ensures (given c.init.result c.shelf_answer.result c.shelf_answer.ensures tt
+    c.in-Ok-shelf_answer.is) c.fill.new.disk c.fill.new.out c.in-NoMemory.ensures _ _ c.withdraw.ensures.kind
     c.withdraw.ensures.tell.told c.withdraw.ensures.tell.untold c.withdraw.ensures.first c.withdraw.ensures.ends
     c.withdraw.ensures.left c.withdraw.ensures.any_moment)
 
@@ -43,5 +44,6 @@ pub returns-in_default : goal.returns-in_default
 returns-in_default g c =
     rw (sym c.in-Ok.ensures.bytes)
     (filled g.D.Disk g.O.Sink c.in-Ok.symbols.items c.args.disk.now c.init.new.disk c.args.out.now c.init.result
-    c.init.ensures (given c.init.result c.shelf_answer.result c.shelf_answer.ensures tt c.in-Ok-shelf_answer.is) c.fill.new.disk c.fill.new.out c.fill.result c.fill.ensures
+    c.init.ensures (given c.init.result c.shelf_answer.result c.shelf_answer.ensures tt
+    c.in-Ok-shelf_answer.is) c.fill.new.disk c.fill.new.out c.fill.result c.fill.ensures
     c.in_default.not-NoMemory)

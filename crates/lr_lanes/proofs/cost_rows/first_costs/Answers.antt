@@ -3,18 +3,20 @@ use Rattle.std.proofs.lemmas.Int.{to_z-of_z}
 use mir.Syntax.{w8}
 use mir.Val.{SFits}
 use Rattle.lr_trellis.specs.Path.{symbol_cost}
-use Rattle.lr_lanes.proofs.CostRows.{first_is}
+use Rattle.lr_lanes.proofs.CostRows.{first_is, first_size}
 use Rattle.lr_lanes.proofs.cost_rows.first_costs.Goals as goal
 
-pub returns-clause-costs : goal.returns-clause-costs
-returns-clause-costs c =
+pub returns-clause-size : goal.returns-clause-size
+returns-clause-size c = first_size c.row_of-row.result c.row_of-row.ensures.below
+
+pub returns-clause-value : goal.returns-clause-value
+returns-clause-value c =
     let fits : SFits w8 c.args.symbol = search rules in
     let zero : symbol_cost false c.args.symbol ≡ c.row_of-row.result - 1 =
     simp to_z-of_z at c.row_of-row.ensures.zero in
     let one : symbol_cost true c.args.symbol ≡ 254 - (c.row_of-row.result - 1) =
     simp to_z-of_z at c.row_of-row.ensures.one in
-    first_is c.row_of-row.result (symbol_cost false c.args.symbol) (symbol_cost true c.args.symbol)
-    c.row_of-row.ensures.below zero one
+    first_is (λ b. symbol_cost b c.args.symbol) c.row_of-row.result c.row_of-row.ensures.below zero one
 
 pub returns-clause-sum : goal.returns-clause-sum
 returns-clause-sum c =

@@ -1,7 +1,0 @@
-use Rattle.std.proofs.Common.{◌*◌}
-use Rattle.lr_lanes.proofs.Branches.{branches, get_or-branches}
-use Rattle.lr_lanes.proofs.narrow_lanes.level_0_costs.Goals as goal
-
-pub returns-clause-value : goal.returns-clause-value
-unfolding branches
-returns-clause-value c = get_or-branches (λ k. 2 * k) c.args.costs c.requires
