@@ -74,6 +74,6 @@ blessed() {
 }
 
 # (a method of a trait that ends at no semicolon, and a law whose body `{}` is looked for further on)
-blessed Disk::length "cause only_read told untold size contents crash time" 's/line.endswith(";")/line.endswith(";;")/'
+blessed Disk::length "cause only_read tell size contents crash time" 's/line.endswith(";")/line.endswith(";;")/'
 blessed one_nearest_path "there only" 's/line == indent + "{}"/line == indent + "{ }"/; s/line.endswith("{}")/line.endswith("{ }")/'
 echo "trials/documents-test.sh: $faults planted faults, each found"
