@@ -322,7 +322,8 @@ in_system() {
 # Other trials, with the program that is installed in the system. (No file of Python's own is to be new then.)
 try_others() {
     mkdir root/top
-    (cd "$top" && cp -R CHANGELOG.md HANDLES README.md docs examples lritstation packaging reference tools trials "$OLDPWD/root/top/") ||
+    (cd "$top" && cp -R CHANGELOG.md HANDLES README.md docs examples lritstation packaging reference tools trials \
+        "$OLDPWD/root/top/") ||
         fail "the trials can't be copied"
     [ -z "${REFUSE_LIBRARY-}" ] || cp "$REFUSE_LIBRARY" root/top/refuse.so || fail "the library for memory.sh"
     for trial; do

@@ -135,7 +135,8 @@ until_it has_files /srv/station 63
 
 # images may be mended: the reception has the option, and the quality is told beside it
 systemctl stop station.service
-sed -i 's/^SOURCE=.*/SOURCE="cat \/srv\/symbols"/; s/^OPTIONS=.*/OPTIONS="--line nrz-m --g2 plain --mend 64"/' /etc/gomtasil/station.conf
+sed -i -e 's/^SOURCE=.*/SOURCE="cat \/srv\/symbols"/' \
+    -e 's/^OPTIONS=.*/OPTIONS="--line nrz-m --g2 plain --mend 64"/' /etc/gomtasil/station.conf
 cp symbols /srv/symbols
 rm -f /srv/station/*.shelf /srv/station/quality
 systemctl start station.service
