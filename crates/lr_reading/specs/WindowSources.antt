@@ -76,15 +76,15 @@ abbrev pub leeway_in : Intake → Leeway
 leeway_in intake = leeway_with (vec_capacity intake.spare)
 
 -- where the first of these frames ends, or else this place
-abbrev pub end_of_last : List Frame → ℕ → ℕ
-end_of_last [] place = place
-end_of_last (frame ∷ frames) place = place_after_frame frame
+abbrev pub end_of_first : List Frame → ℕ → ℕ
+end_of_first [] place = place
+end_of_first (frame ∷ frames) place = place_after_frame frame
 
 -- each of these frames ends, and then this place comes, no further after the one before than the lock holds symbols
 abbrev pub AreClose : List Frame → ℕ → Type 0
 AreClose [] place = Unit {0}
 AreClose (frame ∷ frames) place =
-    (end_of_last frames place ≤ place_after_frame frame + lock_symbols) × AreClose frames place
+    (end_of_first frames place ≤ place_after_frame frame + lock_symbols) × AreClose frames place
 
 -- ---- the input
 
