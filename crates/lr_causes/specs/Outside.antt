@@ -54,10 +54,10 @@ outlets d o = record { disk = d; out = o }
 
 -- those of a world, and of the outside
 abbrev pub world_outlets : {S D O : Type 0} → World S D O → OutletsOf D O
-world_outlets world = outlets_of world.disk world.out
+world_outlets world = record { disk = world.disk; out = world.out }
 
 abbrev pub outlets_in : {S D O : Type 0} → Outside S D O → Outlets D O
-outlets_in w = outlets w.disk w.out
+outlets_in w = record { disk = w.disk; out = w.out }
 
 -- how often each of them has failed
 abbrev pub outlet_counts : {D O : Type 0} → OutletsOf D O → Outlets D O → FaultCounts

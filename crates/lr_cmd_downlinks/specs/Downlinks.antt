@@ -32,7 +32,7 @@ use Rattle.lr_shelf.specs.InitialShelves.{OfItems, OfWay, InitialShelf, HoldsEit
 use Rattle.lr_downlinks.specs.Streams.{files_of_downlink}
 use Rattle.lr_cmd_downlinks.specs.Lines.{receipt_lines, last_line}
 use Rattle.lr_cmd_downlinks.specs.Taking.{AreAllTaken, HasFlaw, most_taken}
-use Rattle.lr_reading.specs.Reading.{IsRead, EndsFor, within}
+use Rattle.lr_reading.specs.Reading.{IsRead, EndsFor}
 
 -- The first event decides, but for this: after the files were put onto the shelf, `out` may fail in the receipts, and
 -- the cause stays.
@@ -174,7 +174,7 @@ module _ {S D O : Type 0} (world : World S D O) where
     -- The bytes are a bundle, and the files of its downlinks were put onto the shelf in this order. The shelf had
     -- `base` entries before.
     pub record Merges (cause : Cause) (w w' : Outside S D O) : Type 0 where
-      pub ended : EndsFor world.source End (within most_taken read.bytes) w.source w'.source
+      pub ended : EndsFor world.source End most_taken read.bytes w.source w'.source
       pub streams : List (List ℕ)
       pub bundle : IsBundle read.bytes streams
       pub order : List ℕ
@@ -197,7 +197,7 @@ module _ {S D O : Type 0} (world : World S D O) where
     abbrev pub EndsMerging : Cause → Outside S D O → Outside S D O → Type 0
     EndsMerging Done w w' = Merges Done w w'
     EndsMerging (Failed Source) w w' =
-        LeavesDiskAndOut w w' × EndsFor world.source Fault (within most_taken read.bytes) w.source w'.source
+        LeavesDiskAndOut w w' × EndsFor world.source Fault most_taken read.bytes w.source w'.source
     EndsMerging (Failed Disk) w w' = LeavesAllAlone w w' ⊎ Merges (Failed Disk) w w'
     EndsMerging (Failed Output) w w' = Merges (Failed Output) w w'
     EndsMerging NoMemory w w' = LeavesDiskAndOut w w' ⊎ Merges NoMemory w w'

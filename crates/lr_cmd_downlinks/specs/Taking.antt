@@ -15,7 +15,7 @@ use Rattle.lr_downlinks.specs.declared.sizes.TheConstants.{MOST_BUNDLE_BYTES}
 use Rattle.lr_forms.specs.declared.forms.Stop.{Stop}
 use Rattle.lr_forms.specs.declared.forms.Stop.TheVariants.{End, Limit, Fault}
 use Rattle.lr_io.specs.declared.source.Source.{Ghosts as SourceOf}
-use Rattle.lr_reading.specs.Reading.{IsRead, EndsFor, within}
+use Rattle.lr_reading.specs.Reading.{IsRead, EndsFor}
 
 -- the most bytes that are taken: one more than a bundle can have
 abbrev pub most_taken : ℕ
@@ -46,13 +46,13 @@ HasFlaw bytes flaw =
 module _ {S : Type 0} (source : SourceOf S) where
   -- all bytes of the source were taken, or as many as are taken at most
   abbrev pub AreAllTaken : List ℕ → S → S → Type 0
-  AreAllTaken bytes s s' = EndsFor source End (within most_taken bytes) s s'
-      ⊎ EndsFor source Limit (within most_taken bytes) s s'
+  AreAllTaken bytes s s' = EndsFor source End most_taken bytes s s'
+      ⊎ EndsFor source Limit most_taken bytes s s'
 
   -- these bytes were taken, and no more of them for this reason
   pub record TakesBytes (bytes : List ℕ) (stop : Stop) (s s' : S) : Type 0 where
     pub read : IsRead source most_taken bytes s s'
-    pub reason : EndsFor source stop (within most_taken bytes) s s'
+    pub reason : EndsFor source stop most_taken bytes s s'
 
   -- memory was refused while bytes were taken
   pub record TakingWantsMemory (s s' : S) : Type 0 where
@@ -70,7 +70,7 @@ module _ {S : Type 0} (source : SourceOf S) where
 
   -- no bundle was taken, for this cause
   abbrev pub StopsTaking : Cause → List ℕ → S → S → Type 0
-  StopsTaking (Failed Source) bytes s s' = EndsFor source Fault (within most_taken bytes) s s'
+  StopsTaking (Failed Source) bytes s s' = EndsFor source Fault most_taken bytes s s'
   StopsTaking NoMemory bytes s s' = source.faults s' ≡ source.faults s
   StopsTaking (Refused (BadBundle flaw)) bytes s s' = HasFlaw bytes flaw × AreAllTaken bytes s s'
       × ((other : BundleFlaw) → HasFlaw bytes other → other ≡ flaw)

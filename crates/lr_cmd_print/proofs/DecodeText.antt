@@ -25,7 +25,7 @@ use Rattle.lr_reading.specs.Inputs.{unit_bytes, outcome_of_unit, outcomes_of_byt
 use Rattle.lr_reading.specs.Lines.{numbered_lines}
 use Rattle.lr_reading.specs.Reading.{units_of}
 use Rattle.lr_reading.specs.Readers.{leeway_for}
-use Rattle.lr_reading.specs.Runs.{ReadsInput, TakesAll, TakesSome, course_of, lent, input_read}
+use Rattle.lr_reading.specs.Runs.{ReadsInput, TakesAll, TakesSome, course_of, lent}
 use Rattle.lr_reading.specs.declared.arrival.Arrival.{Arrival}
 use Rattle.lr_forms.specs.declared.forms.Input.{Input}
 use Rattle.lr_forms.specs.declared.forms.Input.TheVariants.{Symbols, Units}
@@ -133,7 +133,7 @@ few_restored out {before} {now} {arrivals} took = omega (
     length-outcomes (a ∷ arrivals) = omega (arith, length-outcomes arrivals)
 
 module _ {S : Type 0} (source : SourceOf S) (input : Input) (limit : ℕ) (totals : ReadCounts) (restored : ℕ)
-    (bytes : List ℕ) (s s' : S) (ends : ReadsInput source (input_read input limit bytes) totals s s')
+    (bytes : List ℕ) (s s' : S) (ends : ReadsInput source input limit bytes totals s s')
     (restored_is : restored ≡ count_by is_restored (outcomes_of_bytes input bytes)) where
   frames_are : length (outcomes_of_bytes input bytes) ≡ totals.frames
   frames_are = outcomes_counted input bytes ∙ sym ends.frames
@@ -214,7 +214,7 @@ module _ {O : Type 0} (out : SinkOf O) where
         → TakesAll (course_of source (OutcomesTook out) input limit (leeway_for input workers)) totals (lent s before)
         (lent s' now)
         → (now.out.ghost_name ≡ before.out.ghost_name) × ((bytes : List ℕ)
-        × ReadsInput source (input_read input limit bytes) totals s s'
+        × ReadsInput source input limit bytes totals s s'
         × (now.restored ≡ count_by is_restored (outcomes_of_bytes input bytes))
         × Puts out (decode_text input bytes) before.out.now now.out.now
         × LinesComeFirst source (decode_printed input workers limit) bytes s s')

@@ -17,7 +17,7 @@ use Rattle.lr_reading.specs.Inputs.{outcome_of_unit}
 use Rattle.lr_reading.specs.Lines.{numbered_lines}
 use Rattle.lr_reading.specs.Reading.{unit_of, units_of}
 use Rattle.lr_reading.specs.Readers.{leeway_for}
-use Rattle.lr_reading.specs.Runs.{ReadsInput, TakesAll, TakesSome, course_of, lent, input_read}
+use Rattle.lr_reading.specs.Runs.{ReadsInput, TakesAll, TakesSome, course_of, lent}
 use Rattle.lr_reading.specs.declared.arrival.Arrival.{Arrival}
 use Rattle.lr_forms.specs.declared.forms.Input.TheVariants.{Units}
 use Rattle.lr_forms.specs.declared.forms.UnitForm.TheVariants.{Frames}
@@ -67,7 +67,7 @@ frames_counted bytes =
 
 -- the last line says how many there are, and how long the rest is
 pub frames_last_is : {S : Type 0} (source : SourceOf S) (limit : ℕ) (totals : ReadCounts) (bytes : List ℕ) (s s' : S)
-    → ReadsInput source (input_read (Units Frames) limit bytes) totals s s'
+    → ReadsInput source (Units Frames) limit bytes totals s s'
     → frames_last bytes totals.stop ≡ summary_line (FramesLine totals.frames totals.left) totals.stop
 frames_last_is source limit totals bytes s s' ends =
     ap (λ k. summary_line (FramesLine k (length bytes % FRAME_BYTES)) totals.stop)
@@ -128,7 +128,7 @@ module _ {O : Type 0} (out : SinkOf O) where
         → TakesAll (course_of source (FramesTook out) (Units Frames) limit (leeway_for (Units Frames) 1)) totals
         (lent s before) (lent s' now)
         → (now.out.ghost_name ≡ before.out.ghost_name) × ((bytes : List ℕ)
-        × ReadsInput source (input_read (Units Frames) limit bytes) totals s s'
+        × ReadsInput source (Units Frames) limit bytes totals s s'
         × Puts out (frames_text bytes) before.out.now now.out.now
         × LinesComeFirst source (frames_printed limit) bytes s s')
     frames_put all =

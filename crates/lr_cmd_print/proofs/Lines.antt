@@ -24,7 +24,7 @@ use Rattle.lr_cmd_print.specs.Progress.{IsFirstOf, LinesComeFirst, LinesStop, Pu
 use Rattle.lr_reading.specs.Arrivals.{arrivals_of}
 use Rattle.lr_reading.specs.Readers.{HaveCome, Leeway, MayWait}
 use Rattle.lr_reading.specs.Reading.{IsRead, WhenLastAsked}
-use Rattle.lr_reading.specs.Runs.{ComeInTime, ReadsInput, input_read}
+use Rattle.lr_reading.specs.Runs.{ComeInTime, ReadsInput}
 use Rattle.lr_reading.specs.declared.arrival.Arrival.{Arrival}
 use Rattle.lr_reading.specs.declared.read_counts.ReadCounts.{ReadCounts}
 use Rattle.lr_reading.proofs.Asking.{when_too}
@@ -308,7 +308,7 @@ module _ {S O : Type 0} (source : SourceOf S) (out : SinkOf O) (printed : Printe
   lines_stopped bytes front later s s' o o' read all keeps_up _ stop = absurd stop
 
   module _ {input : Input} {bytes : List ℕ} {totals : ReadCounts} {s s' : S} {o p : O}
-      (ends : ReadsInput source (input_read input printed.limit bytes) totals s s')
+      (ends : ReadsInput source input printed.limit bytes totals s s')
       (put : Puts out (printed.lines bytes) o p) {line : List ℕ} (is : printed.last bytes totals.stop ≡ line) where
     -- all lines and the last one were put
     pub all_put : {o' : O} → Puts out line p o'

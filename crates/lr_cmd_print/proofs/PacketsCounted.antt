@@ -10,7 +10,7 @@ use Rattle.lr_catalog.specs.declared.summary.Summary.TheVariants.{Packets}
 use Rattle.lr_catalog.specs.Summaries.{summary_line}
 use Rattle.lr_io.specs.declared.source.Source.{Ghosts as SourceOf}
 use Rattle.lr_reading.specs.Reading.{units_of}
-use Rattle.lr_reading.specs.Runs.{ReadsInput, input_read}
+use Rattle.lr_reading.specs.Runs.{ReadsInput}
 use Rattle.lr_forms.specs.declared.forms.Input.TheVariants.{Units}
 use Rattle.lr_forms.specs.declared.forms.UnitForm.TheVariants.{Frames}
 use Rattle.lr_reading.specs.declared.read_counts.ReadCounts.{ReadCounts}
@@ -84,7 +84,7 @@ counted_line counted frames count rest stop all =
 
 -- it says how many frames and packets there are, and how long the rest is
 pub packets_last_is : {S : Type 0} (source : SourceOf S) (limit : ℕ) (totals : ReadCounts) (bytes : List ℕ) (s s' : S)
-    → ReadsInput source (input_read (Units Frames) limit bytes) totals s s'
+    → ReadsInput source (Units Frames) limit bytes totals s s'
     → packets_last bytes totals.stop ≡ packets_count (units_of FRAME_BYTES bytes) totals.frames totals.left totals.stop
 packets_last_is source limit totals bytes s s' ends =
     ap (λ k. packets_count (units_of FRAME_BYTES bytes) k (length bytes % FRAME_BYTES) totals.stop)

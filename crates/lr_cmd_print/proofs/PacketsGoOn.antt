@@ -28,7 +28,7 @@ use Rattle.lr_reading.specs.Arrivals.{arrival_of, arrivals_of, arrivals_of_units
 use Rattle.lr_reading.specs.Inputs.{outcome_of_unit}
 use Rattle.lr_reading.specs.Reading.{units_of}
 use Rattle.lr_reading.specs.Readers.{leeway_for}
-use Rattle.lr_reading.specs.Runs.{ReadsInput, TakesAll, TakesSome, course_of, lent, input_read}
+use Rattle.lr_reading.specs.Runs.{ReadsInput, TakesAll, TakesSome, course_of, lent}
 use Rattle.lr_reading.specs.declared.arrival.Arrival.{Arrival}
 use Rattle.lr_forms.specs.declared.forms.Input.TheVariants.{Units}
 use Rattle.lr_forms.specs.declared.forms.UnitForm.TheVariants.{Frames}
@@ -252,7 +252,7 @@ module _ {O : Type 0} (out : SinkOf O) where
         → TakesAll (course_of source (PacketsTook out) (Units Frames) limit (leeway_for (Units Frames) 1)) totals
         (lent s before) (lent s' now)
         → (now.out.ghost_name ≡ before.out.ghost_name) × ((bytes : List ℕ)
-        × ReadsInput source (input_read (Units Frames) limit bytes) totals s s'
+        × ReadsInput source (Units Frames) limit bytes totals s s'
         × IsPacketCount now.counted (units_of FRAME_BYTES bytes)
         × Puts out (packets_text bytes) before.out.now now.out.now
         × LinesComeFirst source (packets_printed limit) bytes s s')

@@ -13,7 +13,7 @@ use Rattle.lr_causes.specs.Outside.{Pipe, PipeOf}
 use Rattle.lr_causes.specs.Puts.{PutsPrefix}
 use Rattle.lr_io.specs.declared.sink.Sink.{Ghosts as SinkOf}
 use Rattle.lr_reading.specs.Readers.{HaveCome, Leeway, MayWait}
-use Rattle.lr_reading.specs.Reading.{IsRead, EndsFor, WhenLastAsked, within}
+use Rattle.lr_reading.specs.Reading.{IsRead, EndsFor, WhenLastAsked}
 
 -- `out` got this text first, and perhaps more
 abbrev pub GotFirst : {O : Type 0} → SinkOf O → List ℕ → O → O → Type 0
@@ -41,7 +41,7 @@ module _ {S O : Type 0} (world : PipeOf S O) (printed : Printed) where
   pub record PrintsAll (stop : Stop) (w w' : Pipe S O) : Type 0 where
     pub bytes : List ℕ
     pub read : IsRead world.source printed.limit bytes w.source w'.source
-    pub reason : EndsFor world.source stop (within printed.limit bytes) w.source w'.source
+    pub reason : EndsFor world.source stop printed.limit bytes w.source w'.source
     pub tell : KeepsTelling (world.out.tells w.out) (world.out.tells w'.out)
     pub put : world.out.tells w.out
         → world.out.contents w'.out ≡ world.out.contents w.out ++ (printed.lines bytes ++ printed.last bytes stop)
@@ -72,7 +72,7 @@ module _ {S O : Type 0} (world : PipeOf S O) (printed : Printed) where
     pub bytes : List ℕ
     pub stop : Stop
     pub read : IsRead world.source printed.limit bytes w.source w'.source
-    pub reason : EndsFor world.source stop (within printed.limit bytes) w.source w'.source
+    pub reason : EndsFor world.source stop printed.limit bytes w.source w'.source
     pub tell : KeepsTelling (world.out.tells w.out) (world.out.tells w'.out)
     pub part : world.out.tells w.out
         → PutsPart (printed.last bytes stop) (world.out.contents w.out ++ printed.lines bytes)

@@ -2,7 +2,7 @@
 ghost use Rattle.std.specs.Prelude.{◌≡◌, ◌<◌, ◌^◌, ◌++◌, List, ℕ, IfOk, IfErr, IsOk, false};
 ghost use Rattle.lr_bits.specs.Outcomes.{is_restored};
 ghost use Rattle.lr_catalog.specs.Summaries.{summary_line};
-ghost use Rattle.lr_reading.specs.Runs.{ReadsInput, input_read};
+ghost use Rattle.lr_reading.specs.Runs.{ReadsInput};
 ghost use Rattle.lr_forms.specs.declared.forms.Input.TheVariants.{Units};
 ghost use Rattle.lr_forms.specs.declared.forms.UnitForm.TheVariants.{Frames};
 ghost use Rattle.lr_cmd_print.specs.Frames.{frames_text, frames_printed};
@@ -86,7 +86,7 @@ fn put_each_frame<S: Source, O: Sink>(
     requires alone { reader.workers ≡ 1 }
     requires few { reader.most < 2 ^ 64 }
     ensures all { IfOk result (λ totals. (bytes : List ℕ)
-        × ReadsInput S.Source (input_read (Units Frames) reader.most bytes) totals source.old source.new
+        × ReadsInput S.Source (Units Frames) reader.most bytes totals source.old source.new
         × Puts O.Sink (frames_text bytes) out.old out.new
         × LinesComeFirst S.Source (frames_printed reader.most) bytes source.old source.new) }
     ensures stopped { IfErr result (λ cause.

@@ -5,7 +5,7 @@ ghost use Rattle.lr_catalog.specs.Summaries.{summary_line};
 ghost use Rattle.lr_reading.specs.Inputs.{outcomes_of_bytes};
 ghost use Rattle.lr_reading.specs.Leading.{MayLead, Leads};
 ghost use Rattle.lr_reading.specs.Readers.{leeway_for};
-ghost use Rattle.lr_reading.specs.Runs.{ReadsInput, IsLed, course_of, lent, input_read};
+ghost use Rattle.lr_reading.specs.Runs.{ReadsInput, IsLed, course_of, lent};
 ghost use Rattle.lr_cmd_print.specs.Decode.{decode_text, sums_of, decode_printed};
 ghost use Rattle.lr_cmd_print.specs.DecodeTaken.{OutcomesTook, OutcomesStopped};
 ghost use Rattle.lr_cmd_print.specs.OutcomeLines.{outcome_text};
@@ -121,7 +121,7 @@ fn put_each_outcome<
     ensures all { (workers : ℕ) → Leads (F.post read)
         (course_of S.Source (OutcomesTook O.Sink) input most (leeway_for input workers)) (OutcomesStopped O.Sink)
         → IfOk result (λ sums. (bytes : List ℕ)
-        × ReadsInput S.Source (input_read input most bytes) sums.0 source.old source.new
+        × ReadsInput S.Source input most bytes sums.0 source.old source.new
         × (sums.1 ≡ count_by is_restored (outcomes_of_bytes input bytes))
         × Puts O.Sink (decode_text input bytes) out.old out.new
         × LinesComeFirst S.Source (decode_printed input workers most) bytes source.old source.new) }

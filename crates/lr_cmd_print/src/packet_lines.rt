@@ -25,7 +25,7 @@ ghost use Rattle.lr_vc.specs.Frame.{frame_of};
 ghost use Rattle.lr_vc.specs.Standing.{ChannelsStandFor};
 ghost use Rattle.lr_packet.specs.Verdict.{good_of, good_packets};
 ghost use Rattle.lr_reading.specs.Reading.{units_of};
-ghost use Rattle.lr_reading.specs.Runs.{ReadsInput, input_read};
+ghost use Rattle.lr_reading.specs.Runs.{ReadsInput};
 ghost use Rattle.lr_forms.specs.declared.forms.Input.TheVariants.{Units};
 ghost use Rattle.lr_forms.specs.declared.forms.UnitForm.TheVariants.{Frames};
 ghost use Rattle.lr_cmd_print.specs.Added.{packets_added, lines_added};
@@ -196,7 +196,7 @@ fn put_each_packet<S: Source, O: Sink>(
     requires alone { reader.workers ≡ 1 }
     requires few { reader.most < 2 ^ 64 }
     ensures all { IfOk result (λ sums. (bytes : List ℕ)
-        × ReadsInput S.Source (input_read (Units Frames) reader.most bytes) sums.0 source.old source.new
+        × ReadsInput S.Source (Units Frames) reader.most bytes sums.0 source.old source.new
         × IsPacketCount sums.1 (units_of FRAME_BYTES bytes) × Puts O.Sink (packets_text bytes)
         out.old out.new
         × LinesComeFirst S.Source (packets_printed reader.most) bytes source.old source.new) }

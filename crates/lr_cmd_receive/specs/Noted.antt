@@ -21,7 +21,8 @@ placed_files files = map placed_of files
 
 -- they are noted where images are mended, that is where one may have fillers
 abbrev pub noted_where : ℕ → MarkedPlaced → NotedFile
-noted_where mend marked = noted_file marked.placed (if mend == 0 then None else Some marked.fillers)
+noted_where mend marked =
+    record { placed = marked.placed; fillers = if mend == 0 then None else Some marked.fillers }
 
 -- the files of these outcomes, where an image has at most `mend` fillers
 unfoldable pub noted_of_outcomes : ℕ → List Outcome → List NotedFile

@@ -3,11 +3,9 @@ use Rattle.std.specs.Prelude.{◌≡◌, ◌⊎◌, ◌+◌, ℕ, List, [], ◌+
 use Rattle.lr_bits.specs.declared.outcome.Outcome.{Outcome}
 use Rattle.lr_bits.specs.declared.placed.Placed.{Placed}
 use Rattle.lr_disk.specs.Reads.{IsOnlyRead}
-use Rattle.lr_disk.specs.Pending.{NothingPending}
+use Rattle.lr_disk.specs.Pending.{EachImageSince, NothingPending}
 use Rattle.lr_layers.specs.Layers.{CountsView, mended_numbers_of}
-use Rattle.lr_shelf_format.specs.Items.{Item}
 use Rattle.lr_shelf_format.specs.Way.{IsNoShelfAt, IsWay, Way}
-use Rattle.lr_shelf.specs.Shelf.{IsDurable}
 use Rattle.lr_forms.specs.declared.forms.Stop.{Stop}
 use Rattle.lr_forms.specs.declared.forms.Stop.TheVariants.{End, Limit, Fault}
 use Rattle.lr_catalog.specs.declared.summary.Summary.TheVariants.{Receive}
@@ -18,7 +16,7 @@ use Rattle.lr_causes.specs.declared.cause.Party.TheVariants.{Source, Disk, Outpu
 use Rattle.lr_causes.specs.declared.cause.Refusal.TheVariants.{NotAShelf, Capacity}
 use Rattle.lr_forms.specs.declared.forms.Input.{Input}
 use Rattle.lr_causes.specs.Causes.{IsEarlier, MayEndBefore, cause_at}
-use Rattle.lr_causes.specs.Outside.{NoFault, Outlets, OutletsOf, Outside, World, counts_in}
+use Rattle.lr_causes.specs.Outside.{NoFault, Outlets, Outside, World, counts_in}
 use Rattle.lr_causes.specs.Outside.{TellOn, outlets_in, world_outlets}
 use Rattle.lr_causes.specs.Counts.{CountsTell}
 use Rattle.lr_cmd_receive.specs.First.{SourceBesides}
@@ -26,14 +24,11 @@ use Rattle.lr_reading.specs.Inputs.{outcomes_of_bytes, bytes_left_over}
 use Rattle.lr_reading.specs.Readers.{HaveCome, Leeway, MayWait, leeway_for}
 use Rattle.lr_cmd_receive.specs.Inputs.{files_of_bytes}
 use Rattle.lr_cmd_receive.specs.Noted.{NotedFile, noted_of_outcomes, placed_files}
-use Rattle.lr_cmd_receive.specs.Onto.{ChangesFor, ChangesImagesFor, IsFull, HadRoom}
-use Rattle.lr_reading.specs.Reading.{IsRead, EndsFor, WhenLastAsked, within}
-use Rattle.lr_reading.specs.Runs.{InputRead, input_read}
-use Rattle.lr_shelf.specs.InitialShelves.{InitialShelf, OfItems, OfWay, AllHaveRoom, HoldsPrefix}
-use Rattle.lr_shelf.specs.InitialShelves.{HoldsStill, LeavesPrefixes, StandsWith, next_number}
-use Rattle.lr_cmd_receive.specs.Shelving.{FilesOnto, files_onto, shortage_of, shelved_lines}
-use Rattle.lr_cmd_receive.specs.Shelving.{AreAcknowledged, GotText, GotPart, DiskStops, MemoryStops}
-use Rattle.lr_cmd_receive.specs.Shelving.{FullStops, LineStops, StopsInLines}
+use Rattle.lr_cmd_receive.specs.Onto.{ChangesFor, IsFullWith}
+use Rattle.lr_reading.specs.Reading.{IsRead, EndsFor, WhenLastAsked}
+use Rattle.lr_shelf.specs.Prefixes.{HasRoom}
+use Rattle.lr_shelf.specs.InitialShelves.{InitialShelf, HoldsPrefix, HoldsStill, LeavesPrefixes, StandsWith}
+use Rattle.lr_cmd_receive.specs.Shelving.{AreAcknowledged, GotText, GotPart, StopsBy, StopsInLines, shelved_lines}
 
 -- how many bytes were taken, how many outcomes there are, of each kind, how many good packets and files, and how many
 -- bytes are left
@@ -74,194 +69,6 @@ IsWorkDone Done = Unit {0}
 IsWorkDone (Failed Source) = Unit {0}
 IsWorkDone _ = ⊥
 
--- what a run took, and how many fillers an image may have
-pub record Intake : Type 0 where
-  pub mend : ℕ
-  pub taken : InputRead
-
-abbrev pub intake : ℕ → InputRead → Intake
-intake mend taken = record { mend = mend; taken = taken }
-
--- the files of what was taken, and the last line
-abbrev pub files_taken : Intake → List NotedFile
-files_taken run = files_of_bytes run.mend run.taken.input run.taken.bytes
-
-abbrev pub last_taken : Intake → Stop → List ℕ
-last_taken run stop = receive_last run.mend run.taken.input run.taken.bytes stop
-
--- what a run took, the number of the first file that comes of it, and why no more was taken
-pub record WorkDone : Type 0 where
-  pub of : Intake
-  pub number : ℕ
-  pub stop : Stop
-
-abbrev pub work_done : Intake → ℕ → Stop → WorkDone
-work_done of number stop = record { of = of; number = number; stop = stop }
-
--- what stood there before a run, and what it took
-pub record RunOnto : Type 0 where
-  pub initial : InitialShelf
-  pub of : Intake
-
-abbrev pub run_onto : InitialShelf → Intake → RunOnto
-run_onto initial of = record { initial = initial; of = of }
-
--- and what its files come onto
-abbrev pub files_of_run : RunOnto → FilesOnto
-files_of_run run = files_onto run.initial (files_taken run.of)
-
-module _ {S D O : Type 0} (world : World S D O) where
-  -- Why no more of the input was taken, and that `out` got the lines of all files, and the last line.
-  pub record DoesWork (done : WorkDone) (w w' : Outside S D O) : Type 0 where
-    pub reason : EndsFor world.source done.stop (within done.of.taken.limit done.of.taken.bytes) w.source w'.source
-    pub got : GotText world.out
-        (shelved_lines done.number (files_taken done.of) ++ last_taken done.of done.stop) w.out w'.out
-
-  module _ (run : RunOnto) where
-    -- all files are shelved, and the last line is put
-    pub record Finishes (stop : Stop) (w w' : Outside S D O) : Type 0 where
-      pub reason : EndsFor world.source stop (within run.of.taken.limit run.of.taken.bytes) w.source w'.source
-      pub durable : HoldsStill run.initial (placed_files (files_taken run.of)) world.disk w'.disk
-      pub got : GotText world.out
-          (shelved_lines (next_number run.initial) (files_taken run.of) ++ last_taken run.of stop)
-          w.out w'.out
-
-    -- `out` failed in the last line
-    pub record SummaryStops (w w' : Outside S D O) : Type 0 where
-      pub stop : Stop
-      pub reason : EndsFor world.source stop (within run.of.taken.limit run.of.taken.bytes) w.source w'.source
-      pub durable : HoldsStill run.initial (placed_files (files_taken run.of)) world.disk w'.disk
-      pub part : GotPart world.out (shelved_lines (next_number run.initial) (files_taken run.of))
-          (last_taken run.of stop) w.out w'.out
-
-    -- how a run ends, for each cause that it may have
-    abbrev pub Ends : Cause → Outside S D O → Outside S D O → Type 0
-    Ends Done w w' = Finishes End w w' ⊎ Finishes Limit w w'
-    Ends (Failed Source) w w' = Finishes Fault w w'
-    Ends (Failed Disk) w w' = DiskStops (world_outlets world) (files_of_run run) (outlets_in w) (outlets_in w')
-    Ends (Failed Output) w w' =
-        LineStops (world_outlets world) (files_of_run run) (outlets_in w) (outlets_in w') ⊎ SummaryStops w w'
-    Ends NoMemory w w' = MemoryStops (world_outlets world) (files_of_run run) (outlets_in w) (outlets_in w')
-    Ends (Refused (Capacity needed most)) w w' =
-        FullStops (world_outlets world) (files_of_run run) (shortage_of needed most) (outlets_in w) (outlets_in w')
-    Ends _ w w' = ⊥
-
--- the first outcomes of these bytes, this many, are worked through: their files are acknowledged, as the first ones of
--- all
-abbrev pub AreWorked : {D O : Type 0} → OutletsOf D O → FilesOnto → (mend : ℕ) → Input → Outlets D O → Outlets D O
-    → List ℕ → (count : ℕ) → Type 0
-AreWorked world all mend input w w' bytes count =
-    AreAcknowledged world all (noted_of_outcomes mend (take count (outcomes_of_bytes input bytes))) w w'
-
--- as the source is asked, which gave these bytes in these pieces: so are those that count, but for the few that may
--- wait
-abbrev pub AreInTime : {D O : Type 0} → OutletsOf D O → FilesOnto → (mend : ℕ) → Input → Leeway → Outlets D O
-    → Outlets D O → List ℕ → List (List ℕ) → Type 0
-AreInTime world all mend input leeway w w' given pieces =
-    (count few : ℕ) → MayWait input leeway given pieces few → HaveCome input leeway.tail given (count + few)
-    → AreWorked world all mend input w w' given count
-
--- the bytes that were taken of an input, while this many work on windows, and how many fillers an image may have
-pub record TakenBy : Type 0 where
-  pub mend : ℕ
-  pub input : Input
-  pub workers : ℕ
-  pub bytes : List ℕ
-
-abbrev pub taken_by : (mend : ℕ) → Input → (workers : ℕ) → List ℕ → TakenBy
-taken_by mend input workers bytes = record { mend = mend; input = input; workers = workers; bytes = bytes }
-
--- no file of the bytes taken is put off, where this many work on windows; what stood there before is the initial shelf
-pub record PutsNoFileOff {S D O : Type 0} (world : World S D O) (taken : TakenBy) (initial : InitialShelf)
-    (w w' : Outside S D O) : Type 0 where
-  -- However the run ended: of the outcomes of the bytes taken all but the last few are worked through, and their files
-  -- are acknowledged. Any append may be the one that fails, so this says when a file is shelved.
-  pub timely : (count : ℕ)
-      → HaveCome taken.input 0 taken.bytes (count + (leeway_for taken.input taken.workers).at_end)
-      → AreWorked (world_outlets world) (files_onto initial (files_of_bytes taken.mend taken.input taken.bytes))
-      taken.mend taken.input
-      (outlets_in w) (outlets_in w') taken.bytes count
-  -- So are those after which so many symbols or bytes were taken.
-  pub timely_in_bytes : (count : ℕ)
-      → HaveCome taken.input (leeway_for taken.input taken.workers).ahead taken.bytes count
-      → AreWorked (world_outlets world) (files_onto initial (files_of_bytes taken.mend taken.input taken.bytes))
-      taken.mend taken.input
-      (outlets_in w) (outlets_in w') taken.bytes count
-  -- And no file waited for the source: when it was last asked, each frame whose window it had given was worked through,
-  -- and each block or frame of bytes. Only where more than one work on windows, and it had just given all that it was
-  -- asked for, the last few might wait. Any append may be the one that fails, so they were worked through before that
-  -- call.
-  pub in_time : WhenLastAsked world.source (AreInTime (world_outlets world)
-      (files_onto initial (files_of_bytes taken.mend taken.input taken.bytes)) taken.mend taken.input
-      (leeway_for taken.input taken.workers) (outlets_in w) (outlets_in w')) taken.bytes w.source w'.source
-
--- a run that took these bytes; what stood there before is the initial shelf
-pub record Receives {S D O : Type 0} (world : World S D O) (run : RunOnto) (cause : Cause) (w w' : Outside S D O)
-    : Type 0 where
-  -- the contents and each crash image hold each file whose line was put whole
-  pub held : (whole rest : List NotedFile) (text : List ℕ) → world.out.tells w.out
-      → files_taken run.of ≡ whole ++ rest
-      → world.out.contents w'.out
-      ≡ world.out.contents w.out ++ (shelved_lines (next_number run.initial) whole ++ text)
-      → HoldsPrefix world.disk run.initial (placed_files (files_taken run.of)) (length whole) w'.disk
-  -- a stop at any moment of the call leaves what was there and a prefix of the files
-  pub any_moment : LeavesPrefixes world.disk run.initial (placed_files (files_taken run.of)) w.disk w'.disk
-  -- what a finished run leaves, and one that stopped early
-  pub ends : Ends world run cause w w'
-  -- where no count rises and all files fit, the work is done or memory was refused
-  pub complete : NoFault world w w' → AllHaveRoom run.initial (placed_files (files_taken run.of))
-      → (cause ≡ Done) ⊎ (cause ≡ NoMemory)
-
--- The work is done, over every disk, whatever it tells and whatever is pending on it.
-pub record EndsWork {S D O : Type 0} (world : World S D O) (of : Intake) (cause : Cause) (w w' : Outside S D O)
-    : Type 0 where
-  pub stop : Stop
-  pub is : cause ≡ cause_at stop
-  pub number : ℕ
-  pub work : DoesWork world (work_done of number stop) w w'
-  -- where the disk has a way, the first file comes after its entries
-  pub numbered : (way : Way) → world.disk.tells w.disk → IsWay (world.disk.contents w.disk) way
-      → number ≡ length way.entries
-  -- the files stand on each initial shelf that was there, and nothing is pending
-  pub stand : (initial : InitialShelf) → world.disk.tells w.disk → StandsWith initial [] (world.disk.contents w.disk)
-      → HoldsStill initial (placed_files (files_taken of)) world.disk w'.disk
-
--- what a run took, and the number of the first file that comes of it
-pub record RunFrom : Type 0 where
-  pub of : Intake
-  pub number : ℕ
-
-abbrev pub run_from : Intake → ℕ → RunFrom
-run_from of number = record { of = of; number = number }
-
--- `out` failed in the last line: it got those of all files, and a part of the last one
-pub record CutsLast {S D O : Type 0} (world : World S D O) (run : RunFrom) (w w' : Outside S D O) : Type 0 where
-  pub stop : Stop
-  pub reason : EndsFor world.source stop (within run.of.taken.limit run.of.taken.bytes) w.source w'.source
-  pub part : GotPart world.out (shelved_lines run.number (files_taken run.of)) (last_taken run.of stop) w.out w'.out
-
--- the work isn't done: `out` got the lines of the first files, and where it failed a part of the next line or of the
--- last one
-abbrev pub PutsLines : {S D O : Type 0} → World S D O → RunFrom → Cause → Outside S D O → Outside S D O → Type 0
-PutsLines world run cause w w' =
-    StopsInLines world.out cause run.number (files_taken run.of) w.out w'.out
-    ⊎ ((cause ≡ Failed Output) × CutsLast world run w w')
-
--- The work isn't done, over every disk, whatever it tells and whatever is pending on it.
-pub record StopsEarly {S D O : Type 0} (world : World S D O) (of : Intake) (cause : Cause) (w w' : Outside S D O)
-    : Type 0 where
-  pub number : ℕ
-  pub lines : PutsLines world (run_from of number) cause w w'
-  -- where the disk has a way, the first file, if there is one, comes after its entries
-  pub numbered : (way : Way) → world.disk.tells w.disk → IsWay (world.disk.contents w.disk) way
-      → (files_taken of ≡ [] → ⊥) → number ≡ length way.entries
-
--- the disk was only read, whatever it tells, and the source and `out` are as they were
-pub record IsUntouched {S D O : Type 0} (world : World S D O) (w w' : Outside S D O) : Type 0 where
-  pub only_read : IsOnlyRead world.disk w.disk w'.disk
-  pub source_stays : w'.source ≡ w.source
-  pub out_stays : w'.out ≡ w.out
-
 -- what `receive` is asked: how many fillers an image may have, none where nothing is mended; the form of its input; how
 -- many work on windows; and how many bytes it takes at most
 pub record ReceiveQuery : Type 0 where
@@ -274,53 +81,152 @@ abbrev pub receive_query : (mend : ℕ) → Input → (workers limit : ℕ) → 
 receive_query mend input workers limit =
     record { mend = mend; input = input; workers = workers; limit = limit }
 
--- what it took of that
-abbrev pub intake_of : ReceiveQuery → List ℕ → Intake
-intake_of asked bytes = intake asked.mend (input_read asked.input asked.limit bytes)
+-- the files of the bytes that it took
+abbrev pub files_asked : ReceiveQuery → List ℕ → List NotedFile
+files_asked asked bytes = files_of_bytes asked.mend asked.input bytes
 
--- and the files of that
-abbrev pub asked_files : ReceiveQuery → List ℕ → List Placed
-asked_files asked bytes = placed_files (files_of_bytes asked.mend asked.input bytes)
+-- a run: what it was asked, what was there before it, and the bytes that it took
+pub record Run : Type 0 where
+  pub asked : ReceiveQuery
+  pub initial : InitialShelf
+  pub bytes : List ℕ
+
+-- ---- how a run ends, over every disk, whatever it tells and whatever is pending on it
+
+module _ {S D O : Type 0} (world : World S D O) (asked : ReceiveQuery) (bytes : List ℕ) where
+  -- The work is done: why no more of the input was taken, and `out` got the lines of all files, the first of which has
+  -- this number, and the last line.
+  pub record EndsWork (cause : Cause) (w w' : Outside S D O) : Type 0 where
+    pub stop : Stop
+    pub is : cause ≡ cause_at stop
+    pub reason : EndsFor world.source stop asked.limit bytes w.source w'.source
+    pub number : ℕ
+    pub got : GotText world.out
+        (shelved_lines number (files_asked asked bytes) ++ receive_last asked.mend asked.input bytes stop) w.out w'.out
+    -- where the disk has a way, the first file comes after its entries
+    pub numbered : (way : Way) → world.disk.tells w.disk → IsWay (world.disk.contents w.disk) way
+        → number ≡ length way.entries
+    -- the files stand after what was there, and nothing is pending
+    pub stand : (initial : InitialShelf) → world.disk.tells w.disk
+        → StandsWith initial [] (world.disk.contents w.disk)
+        → HoldsStill initial (placed_files (files_asked asked bytes)) world.disk w'.disk
+
+  -- `out` failed in the last line: it got those of all files, and a part of the last one
+  pub record CutsLast (number : ℕ) (w w' : Outside S D O) : Type 0 where
+    pub stop : Stop
+    pub reason : EndsFor world.source stop asked.limit bytes w.source w'.source
+    pub part : GotPart world.out (shelved_lines number (files_asked asked bytes))
+        (receive_last asked.mend asked.input bytes stop) w.out w'.out
+
+  -- The work isn't done: `out` got the lines of the first files, and where it failed a part of the next line or of the
+  -- last one.
+  pub record StopsEarly (cause : Cause) (w w' : Outside S D O) : Type 0 where
+    pub number : ℕ
+    pub lines : StopsInLines world.out cause number (files_asked asked bytes) w.out w'.out
+        ⊎ ((cause ≡ Failed Output) × CutsLast number w w')
+    -- where the disk has a way, the first file, if there is one, comes after its entries
+    pub numbered : (way : Way) → world.disk.tells w.disk → IsWay (world.disk.contents w.disk) way
+        → (files_asked asked bytes ≡ [] → ⊥) → number ≡ length way.entries
+
+-- ---- what it leaves after what was there
+
+module _ {S D O : Type 0} (world : World S D O) (run : Run) where
+  -- the first outcomes of these bytes, this many, are worked through: their files are acknowledged, as the first ones
+  -- of all
+  abbrev pub AreWorked : Outlets D O → Outlets D O → List ℕ → (count : ℕ) → Type 0
+  AreWorked w w' bytes count =
+      AreAcknowledged (world_outlets world) run.initial (files_asked run.asked run.bytes)
+      (noted_of_outcomes run.asked.mend (take count (outcomes_of_bytes run.asked.input bytes))) w w'
+
+  -- as the source is asked, which gave these bytes in these pieces: so are those that count, but for the few that may
+  -- wait
+  abbrev pub AreInTime : Outlets D O → Outlets D O → List ℕ → List (List ℕ) → Type 0
+  AreInTime w w' given pieces =
+      (count few : ℕ) → MayWait run.asked.input (leeway_for run.asked.input run.asked.workers) given pieces few
+      → HaveCome run.asked.input (leeway_for run.asked.input run.asked.workers).tail given (count + few)
+      → AreWorked w w' given count
+
+  -- no file of the bytes taken is put off
+  pub record PutsNoFileOff (w w' : Outside S D O) : Type 0 where
+    -- However the run ended: of the outcomes of the bytes taken all but the last few are worked through, and their
+    -- files are acknowledged. Any append may be the one that fails, so this says when a file is shelved.
+    pub timely : (count : ℕ)
+        → HaveCome run.asked.input 0 run.bytes
+        (count + (leeway_for run.asked.input run.asked.workers).at_end)
+        → AreWorked (outlets_in w) (outlets_in w') run.bytes count
+    -- So are those after which the symbols or bytes were taken that this names.
+    pub timely_in_bytes : (count : ℕ)
+        → HaveCome run.asked.input (leeway_for run.asked.input run.asked.workers).ahead run.bytes count
+        → AreWorked (outlets_in w) (outlets_in w') run.bytes count
+    -- And no file waited for the source: when it was last asked, each frame whose window it had given was worked
+    -- through, and each block or frame of bytes. Only where more than one work on windows, and it had just given all
+    -- that it was asked for, the last few might wait. Any append may be the one that fails, so they were worked through
+    -- before that call.
+    pub in_time : WhenLastAsked world.source (AreInTime (outlets_in w) (outlets_in w')) run.bytes w.source w'.source
+
+  -- the run took these bytes, and they came onto what was there
+  pub record Receives (cause : Cause) (w w' : Outside S D O) : Type 0 where
+    -- the contents and each crash image hold each file whose line was put whole
+    pub held : (whole rest : List NotedFile) (text : List ℕ) → world.out.tells w.out
+        → files_asked run.asked run.bytes ≡ whole ++ rest
+        → world.out.contents w'.out
+        ≡ world.out.contents w.out ++ (shelved_lines (length run.initial.way.entries) whole ++ text)
+        → HoldsPrefix world.disk run.initial (placed_files (files_asked run.asked run.bytes)) (length whole) w'.disk
+    -- a stop at any moment of the call leaves what was there and a prefix of the files
+    pub any_moment : LeavesPrefixes world.disk run.initial (placed_files (files_asked run.asked run.bytes)) w.disk
+        w'.disk
+    -- What a run leaves that stopped early, in shelving or in the last line. `EndsWork` says what one leaves that did
+    -- its work.
+    pub stops : (IsWorkDone cause → ⊥)
+        → StopsBy (world_outlets world) run.initial (files_asked run.asked run.bytes) cause (outlets_in w)
+        (outlets_in w')
+        ⊎ ((cause ≡ Failed Output) × CutsLast world run.asked run.bytes (length run.initial.way.entries) w w'
+        × HoldsStill run.initial (placed_files (files_asked run.asked run.bytes)) world.disk w'.disk)
+    -- where no count rises and all files fit, the work is done or memory was refused
+    pub complete : NoFault world w w' → HasRoom run.initial.way (placed_files (files_asked run.asked run.bytes))
+        → (cause ≡ Done) ⊎ (cause ≡ NoMemory)
+
+-- ---- the whole call
+
+-- the disk was only read, whatever it tells, and the source and `out` are as they were
+pub record IsUntouched {S D O : Type 0} (world : World S D O) (w w' : Outside S D O) : Type 0 where
+  pub only_read : IsOnlyRead world.disk w.disk w'.disk
+  pub source_stays : w'.source ≡ w.source
+  pub out_stays : w'.out ≡ w.out
 
 module _ {S D O : Type 0} (world : World S D O) where
   module _ (asked : ReceiveQuery) (bytes : List ℕ) (cause : Cause) where
-    -- what comes of a shelf that stood there, where these bytes were taken
+    -- What comes of a disk that tells its contents and has a way, whatever its records hold: that of a shelf is one, and
+    -- `FilesComeOntoShelves` says that a shelf of items gets them so.
     pub record ComesOnto (w w' : Outside S D O) : Type 0 where
-      -- over a disk that tells its contents, stands for a shelf, and has nothing pending
-      pub shelf : (capacity : ℕ) (items : List Item) → world.disk.tells w.disk
-          → IsDurable world.disk capacity items w.disk
-          → Receives world (run_onto (OfItems capacity items) (intake_of asked bytes)) cause w w'
-      -- over one that has a way, whatever its records hold, and has nothing pending
+      -- with nothing pending
       pub way : (way : Way) → world.disk.tells w.disk → IsWay (world.disk.contents w.disk) way
           → NothingPending world.disk w.disk
-          → Receives world (run_onto (OfWay way (world.disk.contents w.disk)) (intake_of asked bytes))
-          cause w w'
-      -- no file is put off, over either; and also with something pending at the start, where a byte was taken
+          → Receives world (record {
+            asked = asked;
+            initial = record { way = way; bytes = world.disk.contents w.disk };
+            bytes = bytes;
+          }) cause w w'
+      -- no file is put off; also with something pending at the start, where a byte was taken
       pub keeps_up : (initial : InitialShelf) → world.disk.tells w.disk
           → StandsWith initial [] (world.disk.contents w.disk) → (bytes ≡ [] → NothingPending world.disk w.disk)
-          → PutsNoFileOff world (taken_by asked.mend asked.input asked.workers bytes) initial w w'
+          → PutsNoFileOff world (record { asked = asked; initial = initial; bytes = bytes }) w w'
 
     -- over every disk that tells its contents the capacity is refused only where the next file's end passes it, which
-    -- an empty source never brings about, and the work is done only where there was room for all files
+    -- an empty source never brings about
     pub record MindsCapacity (w w' : Outside S D O) : Type 0 where
-      pub full : (needed most : ℕ) → cause ≡ Refused (Capacity needed most) → world.disk.tells w.disk
-          → IsFull world.disk needed most (asked_files asked bytes) w.disk
+      pub full : (way : Way) (needed most : ℕ) → cause ≡ Refused (Capacity needed most) → world.disk.tells w.disk
+          → IsWay (world.disk.contents w.disk) way
+          → IsFullWith way needed most (placed_files (files_asked asked bytes))
       pub nothing_fits : (needed most : ℕ) → cause ≡ Refused (Capacity needed most)
           → world.source.tells w.source → world.source.left w.source ≡ [] → ⊥
-      pub room : IsWorkDone cause → world.disk.tells w.disk
-          → HadRoom world.disk (asked_files asked bytes) w.disk
 
     -- where no file was read, the disk was only read; where it failed or memory was refused, `out` is as it was, and
     -- where it failed, the source too
     pub record LeavesAlone (w w' : Outside S D O) : Type 0 where
-      pub only_read : asked_files asked bytes ≡ [] → IsOnlyRead world.disk w.disk w'.disk
-      pub silent : asked_files asked bytes ≡ [] → IsEarlier cause → w'.out ≡ w.out
-      pub unasked : asked_files asked bytes ≡ [] → cause ≡ Failed Disk → w'.source ≡ w.source
-
-    -- what `out` got, also with something pending at the start, and over a disk that tells nothing
-    pub record GetsLines (w w' : Outside S D O) : Type 0 where
-      pub ended : IsWorkDone cause → EndsWork world (intake_of asked bytes) cause w w'
-      pub stopped : (IsWorkDone cause → ⊥) → StopsEarly world (intake_of asked bytes) cause w w'
+      pub only_read : files_asked asked bytes ≡ [] → IsOnlyRead world.disk w.disk w'.disk
+      pub silent : files_asked asked bytes ≡ [] → IsEarlier cause → w'.out ≡ w.out
+      pub unasked : files_asked asked bytes ≡ [] → cause ≡ Failed Disk → w'.source ≡ w.source
 
   -- a disk on which no shelf stands is refused, exactly then
   pub record WantsShelf (cause : Cause) (w w' : Outside S D O) : Type 0 where
@@ -336,21 +242,24 @@ module _ {S D O : Type 0} (world : World S D O) where
     pub outside : (way : Way) → world.disk.tells w.disk → IsWay (world.disk.contents w.disk) way
         → ChangesFor way files (world.disk.contents w.disk) (world.disk.contents w'.disk)
     pub outside_any_moment : (way : Way) → world.disk.tells w.disk → IsWay (world.disk.contents w.disk) way
-        → NothingPending world.disk w.disk → ChangesImagesFor world.disk way files w.disk w'.disk
+        → NothingPending world.disk w.disk
+        → EachImageSince world.disk w.disk w'.disk (ChangesFor way files (world.disk.contents w.disk))
 
 -- the whole call, over every disk
 pub record ReceiveRun {S D O : Type 0} (world : World S D O) (asked : ReceiveQuery) (cause : Cause)
     (w w' : Outside S D O) : Type 0 where
   pub causes : IsReceiveCause cause
   -- the first event decides
-  pub first : CountsTell SourceBesides cause (counts_in world w) (counts_in world w')
+  pub counted : CountsTell SourceBesides cause (counts_in world w) (counts_in world w')
   pub tell : TellOn (world_outlets world) (outlets_in w) (outlets_in w')
   -- these bytes were taken
   pub bytes : List ℕ
   pub read : IsRead world.source asked.limit bytes w.source w'.source
   pub onto : ComesOnto world asked bytes cause w w'
-  pub lines : GetsLines world asked bytes cause w w'
+  -- what `out` got, also with something pending at the start, and over a disk that tells nothing
+  pub ended : IsWorkDone cause → EndsWork world asked bytes cause w w'
+  pub stopped : (IsWorkDone cause → ⊥) → StopsEarly world asked bytes cause w w'
   pub wants : WantsShelf world cause w w'
   pub capacity : MindsCapacity world asked bytes cause w w'
   pub alone : LeavesAlone world asked bytes cause w w'
-  pub writes : WritesOnly world (asked_files asked bytes) w w'
+  pub writes : WritesOnly world (placed_files (files_asked asked bytes)) w w'

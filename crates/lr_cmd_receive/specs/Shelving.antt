@@ -1,7 +1,8 @@
 -- Files that come onto a shelf, one after another.
-use Rattle.std.specs.Prelude.{◌≡◌, ◌⊎◌, ◌<◌, ◌+◌, ℕ, Option, Some, None, List, [], ◌∷◌, ◌++◌, length, codes, decimal}
+use Rattle.std.specs.Prelude.{◌≡◌, ◌⊎◌, ◌<◌, ◌+◌, ℕ, min, Option, Some, None, List, [], ◌∷◌, ◌++◌, length, codes, decimal}
 use Rattle.std.specs.List.{concat}
 use Rattle.lr_bits.specs.File.{File, bytes_of, counter_of}
+use Rattle.lr_bits.specs.Sizes.{most_u64}
 use Rattle.lr_io.specs.declared.sink.Sink.{Ghosts as SinkOf}
 use Rattle.lr_io.specs.Pieces.{PutsPart}
 use Rattle.lr_catalog.specs.Files.{shelved_line}
@@ -12,8 +13,10 @@ use Rattle.lr_causes.specs.declared.cause.Party.TheVariants.{Disk, Output}
 use Rattle.lr_causes.specs.declared.cause.Refusal.TheVariants.{Capacity}
 use Rattle.lr_causes.specs.Outside.{Outlets, OutletsOf}
 use Rattle.lr_shelf.specs.InitialShelves.{InitialShelf, HoldsPrefix, HoldsStill, LeavesPrefixes}
-use Rattle.lr_shelf.specs.InitialShelves.{StandsWith, capacity_of, end_with_files, next_number}
-use Rattle.lr_shelf.specs.InitialShelves.{told_end}
+use Rattle.lr_shelf.specs.InitialShelves.{StandsWith}
+use Rattle.lr_shelf.specs.Append.{item_for}
+use Rattle.lr_shelf.specs.Prefixes.{end_with}
+use Rattle.lr_shelf_format.specs.Items.{IsItem}
 use Rattle.lr_cmd_receive.specs.Noted.{NotedFile, placed_files}
 
 -- the line of a file that was shelved, and how many fillers it has
@@ -68,82 +71,68 @@ module _ {O : Type 0} (out : SinkOf O) where
     pub got : (cause ≡ Failed Output → ⊥) → GotText (shelved_lines number done) o o'
     pub cut : cause ≡ Failed Output → CutsLine number done rest o o'
 
--- what stood there before, and the files that come onto it
-pub record FilesOnto : Type 0 where
-  pub initial : InitialShelf
-  pub files : List NotedFile
-
-abbrev pub files_onto : InitialShelf → List NotedFile → FilesOnto
-files_onto initial files = record { initial = initial; files = files }
-
--- where the next file would end, and the capacity
-pub record Shortage : Type 0 where
-  pub needed : ℕ
-  pub most : ℕ
-
-abbrev pub shortage_of : ℕ → ℕ → Shortage
-shortage_of needed most = record { needed = needed; most = most }
-
-module _ {D O : Type 0} (world : OutletsOf D O) (all : FilesOnto) where
+-- these files come onto what was there
+module _ {D O : Type 0} (world : OutletsOf D O) (initial : InitialShelf) (files : List NotedFile) where
   -- The first ones of these files are acknowledged: the contents and each crash image hold them all, and perhaps files
   -- after them, and `out` got their lines, and perhaps more.
   pub record AreAcknowledged (first : List NotedFile) (w w' : Outlets D O) : Type 0 where
     pub others : List NotedFile
-    pub split : all.files ≡ first ++ others
-    pub held : HoldsPrefix world.disk all.initial (placed_files all.files) (length first) w'.disk
+    pub split : files ≡ first ++ others
+    pub held : HoldsPrefix world.disk initial (placed_files files) (length first) w'.disk
     pub told : world.out.tells w.out → (text : List ℕ)
         × (world.out.contents w'.out
-        ≡ world.out.contents w.out ++ (shelved_lines (next_number all.initial) first ++ text))
+        ≡ world.out.contents w.out ++ (shelved_lines (length initial.way.entries) first ++ text))
 
   -- the disk failed: these files are acknowledged, and one more may stand there
   pub record DiskStops (w w' : Outlets D O) : Type 0 where
     pub done : List NotedFile
     pub rest : List NotedFile
-    pub split : all.files ≡ done ++ rest
-    pub contents : StandsForOneFileMore all.initial done rest (world.disk.contents w'.disk)
+    pub split : files ≡ done ++ rest
+    pub contents : StandsForOneFileMore initial done rest (world.disk.contents w'.disk)
     pub images : (c : List ℕ) → world.disk.may_leave w'.disk c
-        → StandsForOneFileMore all.initial done rest c
-    pub got : GotText world.out (shelved_lines (next_number all.initial) done) w.out w'.out
+        → StandsForOneFileMore initial done rest c
+    pub got : GotText world.out (shelved_lines (length initial.way.entries) done) w.out w'.out
 
   -- memory was refused: these files are acknowledged, and they alone stand there
   pub record MemoryStops (w w' : Outlets D O) : Type 0 where
     pub done : List NotedFile
     pub rest : List NotedFile
-    pub split : all.files ≡ done ++ rest
-    pub durable : HoldsStill all.initial (placed_files done) world.disk w'.disk
-    pub got : GotText world.out (shelved_lines (next_number all.initial) done) w.out w'.out
+    pub split : files ≡ done ++ rest
+    pub durable : HoldsStill initial (placed_files done) world.disk w'.disk
+    pub got : GotText world.out (shelved_lines (length initial.way.entries) done) w.out w'.out
 
   -- the next file doesn't fit
-  pub record FullStops (shortage : Shortage) (w w' : Outlets D O) : Type 0 where
+  pub record FullStops (needed most : ℕ) (w w' : Outlets D O) : Type 0 where
     pub done : List NotedFile
     pub next : NotedFile
     pub rest : List NotedFile
-    pub split : all.files ≡ done ++ next ∷ rest
-    pub durable : HoldsStill all.initial (placed_files done) world.disk w'.disk
-    pub got : GotText world.out (shelved_lines (next_number all.initial) done) w.out w'.out
-    pub needs : shortage.needed ≡ told_end all.initial (placed_files (done ++ next ∷ []))
-    pub of : shortage.most ≡ capacity_of all.initial
-    pub over : capacity_of all.initial < end_with_files all.initial (placed_files (done ++ next ∷ []))
+    pub split : files ≡ done ++ next ∷ rest
+    pub durable : HoldsStill initial (placed_files done) world.disk w'.disk
+    pub got : GotText world.out (shelved_lines (length initial.way.entries) done) w.out w'.out
+    pub is_item : IsItem (item_for next.placed)
+    pub needs : needed ≡ min (end_with initial.way.end (placed_files (done ++ next ∷ []))) most_u64
+    pub of : most ≡ initial.way.capacity
+    pub over : initial.way.capacity < end_with initial.way.end (placed_files (done ++ next ∷ []))
 
   -- `out` failed in the line of a file that is shelved
   pub record LineStops (w w' : Outlets D O) : Type 0 where
     pub done : List NotedFile
     pub last : NotedFile
     pub rest : List NotedFile
-    pub split : all.files ≡ (done ++ last ∷ []) ++ rest
-    pub durable : HoldsStill all.initial (placed_files (done ++ last ∷ [])) world.disk w'.disk
-    pub part : GotPart world.out (shelved_lines (next_number all.initial) done)
-        (noted_line (next_number all.initial + length done) last) w.out w'.out
+    pub split : files ≡ (done ++ last ∷ []) ++ rest
+    pub durable : HoldsStill initial (placed_files (done ++ last ∷ [])) world.disk w'.disk
+    pub part : GotPart world.out (shelved_lines (length initial.way.entries) done)
+        (noted_line (length initial.way.entries + length done) last) w.out w'.out
 
   -- how shelving these files stops, for each cause that may stop it
   abbrev pub StopsBy : Cause → Outlets D O → Outlets D O → Type 0
   StopsBy (Failed Disk) w w' = DiskStops w w'
   StopsBy (Failed Output) w w' = LineStops w w'
   StopsBy NoMemory w w' = MemoryStops w w'
-  StopsBy (Refused (Capacity needed most)) w w' = FullStops (shortage_of needed most) w w'
+  StopsBy (Refused (Capacity needed most)) w w' = FullStops needed most w w'
   StopsBy _ w w' = ⊥
 
   -- shelving stopped
   pub record Stops (cause : Cause) (w w' : Outlets D O) : Type 0 where
-    pub any_moment : LeavesPrefixes world.disk all.initial (placed_files all.files) w.disk w'.disk
+    pub any_moment : LeavesPrefixes world.disk initial (placed_files files) w.disk w'.disk
     pub why : StopsBy cause w w'

@@ -26,7 +26,7 @@ use Rattle.lr_reading.specs.Arrivals.{arrival_in}
 use Rattle.lr_forms.specs.declared.forms.Stop.{Stop}
 use Rattle.lr_forms.specs.declared.forms.Stop.TheVariants.{End, Limit, Fault}
 use Rattle.lr_reading.specs.Readers.{EndShort}
-use Rattle.lr_reading.specs.Reading.{CameInPieces, EndsFor, AtSource, StopsAsking, at_source, within}
+use Rattle.lr_reading.specs.Reading.{CameInPieces, EndsFor, AtSource, StopsAsking, at_source}
 use Rattle.lr_reading.proofs.Asking.{came_last, last_one, last_too, none_failed, short_last}
 use Rattle.lr_reading.proofs.Close.{ends_after, ends_weaker}
 use Rattle.lr_reading.proofs.Waiting.{next_ahead}
@@ -138,7 +138,7 @@ module _ {S : Type 0} (symbols : SymbolSource S) where
     still = none_failed source bytes so_far.first before.source came
 
     reason : (stop : Stop) (s' : S) → FeedsNoneFor source stop before.state before.source s'
-        → EndsFor source stop (within before.state.most bytes) so_far.first s'
+        → EndsFor source stop before.state.most bytes so_far.first s'
     reason End s' why = (omega (arith, why.0, so.long), λ told. why.1 (so.tell.told told), why.2 ∙ still)
     reason Limit s' why = (omega (arith, why.0, so.long), why.1 ∙ still)
     reason Fault s' why = (omega (arith, why.0, so.long), subst (λ k. Rose k (source.faults s')) still why.1)
@@ -165,7 +165,7 @@ module _ {S : Type 0} (symbols : SymbolSource S) where
         moved = λ told. so.moved told ∙ ap (λ (l : List ℕ). bytes ++ l) (sym (fed.moved (so.tell.told told)));
         asked = asked;
         going_on = λ e. absurd cc;
-        ended = λ e. subst (λ (n : FeedState). EndsFor source stop (within n.most bytes) so_far.first now.source)
+        ended = λ e. subst (λ (n : FeedState). EndsFor source stop n.most bytes so_far.first now.source)
             (sym fed.same) (reason stop now.source fed.why);
       };
       looks = looks;

@@ -12,7 +12,7 @@ use Rattle.lr_reading.specs.Arrivals.{arrival_of, arrivals_of_units, arrivals_of
 use Rattle.lr_reading.specs.Gathering.{UnitSizes, UnitState, IsShortOfOne, Gathers, GathersFor, GathersOn, units_end}
 use Rattle.lr_reading.specs.Gathering.{ReadsUnits, EndsUnits}
 use Rattle.lr_reading.specs.Inputs.{unit_bytes, outcome_of_unit}
-use Rattle.lr_reading.specs.Reading.{EndsFor, at_source, units_of, within}
+use Rattle.lr_reading.specs.Reading.{EndsFor, at_source, units_of}
 use Rattle.lr_reading.specs.Readers.{leeway_for}
 use Rattle.lr_reading.specs.Runs.{ComeInTime, TakesAll, TakesSome, course_of, lent}
 use Rattle.lr_reading.specs.declared.arrival.Arrival.{Arrival}
@@ -242,7 +242,7 @@ module _ {S C : Type 0} (source : SourceOf S) (took : C → List Arrival → C �
       bytes = concat so.units ++ end.held;
       ends = record {
         read = end.read;
-        reason = subst (λ (x : Stop). EndsFor source x (within limit (concat so.units ++ end.held)) s s') (sym stops)
+        reason = subst (λ (x : Stop). EndsFor source x limit (concat so.units ++ end.held) s s') (sym stops)
             end.reason;
         symbols = omega (arith, symbols, taken_is, all_bytes, end.long);
         frames = omega (arith, frames_is, so.count, ap length come, arrivals_of_units-counted form so.units);

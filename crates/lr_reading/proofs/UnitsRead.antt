@@ -12,7 +12,7 @@ use Rattle.lr_forms.specs.declared.forms.Stop.TheVariants.{End, Limit, Fault}
 use Rattle.lr_reading.specs.declared.next.Next.TheVariants.{Ended}
 use Rattle.lr_reading.specs.Gathering.{UnitSizes, UnitState, IsShortOfOne, Gathers, GathersFor, GathersOn, units_end}
 use Rattle.lr_reading.specs.Gathering.{ReadsUnits, EndsUnits}
-use Rattle.lr_reading.specs.Reading.{CameInPieces, EndsFor, LastCall, AtSource, WhenLastAsked, at_source, within}
+use Rattle.lr_reading.specs.Reading.{CameInPieces, EndsFor, LastCall, AtSource, WhenLastAsked, at_source}
 use Rattle.lr_reading.proofs.Asking.{came_none, came_on, none_failed, stops_asking, when_too}
 
 -- the bytes of one unit more
@@ -120,7 +120,7 @@ module _ {S : Type 0} (source : SourceOf S) (sizes : UnitSizes) where
         still = none_failed source old s before.source reads.going_on
 
         reason_of : (x : Stop) → GathersFor source n (Ended x) before.source now
-            → EndsFor source x (within sizes.limit bytes) s now.source
+            → EndsFor source x sizes.limit bytes s now.source
         reason_of End w =
             (omega (arith, all, w.1, more.most, reads.most), λ tells. w.2 (reads.tell.told tells), w.3 ∙ still)
         reason_of Limit w = (omega (arith, all, w.1, more.most, reads.most), w.2 ∙ still)

@@ -29,6 +29,7 @@ use Rattle.lr_rounds.specs.declared.drive_fault.DriveFault.{DriveFault}
 use Rattle.lr_rounds.specs.declared.drive_fault.DriveFault.TheVariants.{NoMemory, Stopped}
 use Rattle.lr_reading.specs.Arrivals.{arrivals_of}
 use Rattle.lr_reading.specs.Readers.{EndShort, HaveCome, MayWait}
+use Rattle.lr_reading.specs.Inputs.{outcomes_of_bytes}
 use Rattle.lr_reading.specs.Feeding.{symbols_from, taken_since, arrivals_given, EndsInFrame, MayAsk}
 use Rattle.lr_reading.specs.Feeding.{FeedState, FedSoFar}
 use Rattle.lr_reading.specs.Reading.{WhenLastAsked, at_source}
@@ -43,7 +44,7 @@ use Rattle.lr_reading.specs.declared.window_source.WindowSource.{WindowSource}
 use Rattle.lr_reading.specs.declared.arrival.Position.{Position}
 use Rattle.lr_reading.specs.declared.read_counts.ReadCounts.{ReadCounts}
 use Rattle.lr_reading.proofs.Asking.{last_too}
-use Rattle.lr_reading.proofs.Coming.{frames_counted}
+use Rattle.lr_reading.proofs.Coming.{frames_counted, outcomes_counted}
 use Rattle.lr_reading.proofs.WindowJobs.{as_many, oldest_line, handed_more}
 use Rattle.lr_reading.proofs.WindowLed.{few_windows, frames_given, in_time_on, led_some, led_all}
 use Rattle.lr_reading.proofs.Close.{close_later}
@@ -164,8 +165,10 @@ module _ {S C Cause : Type 0} (source : SourceOf S) (consumer : ConsumerOf C Cau
               arith,
               within,
             )))
-            (λ (noise : HaveCome (Symbols line) WINDOW_END given (length (arrivals_of (Symbols line) given))).
-            all_kept (λ under_way. no_noise line at.given given (calm under_way).0 noise) count (omega (
+            (λ (noise : HaveCome (Symbols line) WINDOW_END given (length (outcomes_of_bytes (Symbols line) given))).
+            all_kept (λ under_way. no_noise line at.given given (calm under_way).0
+            (subst (λ (n : ℕ). HaveCome (Symbols line) WINDOW_END given n) (outcomes_counted (Symbols line) given)
+            noise)) count (omega (
               arith,
               within,
             ))) rest)

@@ -24,7 +24,7 @@ use Rattle.lr_forms.specs.declared.forms.Stop.{Stop}
 use Rattle.lr_forms.specs.declared.forms.Stop.TheVariants.{End, Limit, Fault}
 use Rattle.lr_reading.specs.Arrivals.{arrivals_of}
 use Rattle.lr_reading.specs.Feeding.{symbols_from, arrivals_given}
-use Rattle.lr_reading.specs.Reading.{EndsFor, WhenLastAsked, within}
+use Rattle.lr_reading.specs.Reading.{EndsFor, WhenLastAsked}
 use Rattle.lr_reading.specs.Runs.{ComeInTime, TakesAll, TakesSome, lent}
 use Rattle.lr_reading.specs.WindowSources.{IsOver, first_arrivals, course_from, leeway_in, lent_in, StandsAt}
 use Rattle.lr_reading.specs.declared.arrival.Arrival.{Arrival}
@@ -40,7 +40,7 @@ use Rattle.lr_reading.proofs.WindowJobs.{as_many}
 
 -- nothing is left where neither a fault nor the limit ended the reading
 nothing_left : {S : Type 0} (source : SourceOf S) (stop : Stop) (limit : ℕ) (bytes : List ℕ) (s s' : S)
-    → EndsFor source stop (within limit bytes) s s' → source.tells s → length bytes < limit
+    → EndsFor source stop limit bytes s s' → source.tells s → length bytes < limit
     → (Rose (source.faults s) (source.faults s') → ⊥) → source.left s' ≡ []
 nothing_left source End limit bytes s s' why told few calm = why.1 told
 nothing_left source Limit limit bytes s s' why told few calm = absurd (omega (arith, why.0, few))
@@ -73,8 +73,8 @@ module _ {S C Cause : Type 0} (source : SourceOf S) (consumer : ConsumerOf C Cau
   few_bytes = omega (arith, at.is_given.feeds.few, at.is_given.feeds.long, at.is_given.limit_is)
 
   ends_for : before.intake.now.feed.lock.finished ≡ true
-      → EndsFor source before.intake.now.feed.stop (within limit at.bytes) start.source.now before.source.now
-  ends_for finished = subst (λ (k : ℕ). EndsFor source before.intake.now.feed.stop (within k at.bytes) start.source.now
+      → EndsFor source before.intake.now.feed.stop limit at.bytes start.source.now before.source.now
+  ends_for finished = subst (λ (k : ℕ). EndsFor source before.intake.now.feed.stop k at.bytes start.source.now
       before.source.now) at.is_given.limit_is (at.is_given.feeds.ended finished)
 
   -- what comes of all that the source gives begins with these arrivals too
@@ -222,7 +222,7 @@ module _ {S C Cause : Type 0} (source : SourceOf S) (consumer : ConsumerOf C Cau
         few = few_bytes;
         asked = at.is_given.feeds.asked;
       };
-      reason = subst (λ (x : Stop). EndsFor source x (within limit at.bytes) start.source.now before.source.now)
+      reason = subst (λ (x : Stop). EndsFor source x limit at.bytes start.source.now before.source.now)
           over.stop_is
           (ends_for over.closed);
       symbols = symbols ∙ at.is_given.feeds.long;

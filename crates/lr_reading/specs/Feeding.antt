@@ -22,7 +22,7 @@ use Rattle.lr_reading.specs.declared.next.Found.{Found}
 use Rattle.lr_reading.specs.declared.next.Found.TheVariants.{Whole, Noise, Ended}
 use Rattle.lr_reading.specs.Arrivals.{arrival_in, arrivals_of}
 use Rattle.lr_reading.specs.Readers.{EndShort, HaveCome}
-use Rattle.lr_reading.specs.Reading.{AsksOnce, CameInPieces, LastCall, AtSource, StopsAsking, EndsFor, within}
+use Rattle.lr_reading.specs.Reading.{AsksOnce, CameInPieces, LastCall, AtSource, StopsAsking, EndsFor}
 use Rattle.lr_reading.specs.declared.arrival.Arrival.{Arrival}
 
 -- how many symbols the lock keeps at most after it gave a window: that window's frame stood in it too
@@ -165,7 +165,7 @@ module _ {S : Type 0} (symbols : SymbolSource S) where
         → (came : CameInPieces symbols.source so_far.bytes so_far.first now.source)
         × (EndShort came.0 → now.state.short ≡ true)
     pub ended : now.state.lock.finished ≡ true
-        → EndsFor symbols.source now.state.stop (within now.state.most so_far.bytes) so_far.first now.source
+        → EndsFor symbols.source now.state.stop now.state.most so_far.bytes so_far.first now.source
 
   -- after these bytes the source wasn't asked, or only once the lock had looked
   abbrev pub LooksFirst : Type 0 → AtSource (Taken S) S → List ℕ → S → Type 0

@@ -8,7 +8,7 @@ use Rattle.lr_forms.specs.declared.forms.Stop.{Stop}
 use Rattle.lr_forms.specs.declared.forms.Stop.TheVariants.{End, Limit, Fault}
 use Rattle.lr_reading.specs.declared.next.Next.{Next}
 use Rattle.lr_reading.specs.declared.next.Next.TheVariants.{Whole, Ended}
-use Rattle.lr_reading.specs.Reading.{CameInPieces, LastCall, AtSource, WhenLastAsked, IsRead, EndsFor, within}
+use Rattle.lr_reading.specs.Reading.{CameInPieces, LastCall, AtSource, WhenLastAsked, IsRead, EndsFor}
 
 -- the bytes of the unit so far, how many bytes were taken in all, and the most that may be
 pub record UnitState : Type 0 where
@@ -96,4 +96,4 @@ module _ {S : Type 0} (source : SourceOf S) where
     pub read : IsRead source sizes.limit (concat ended.units ++ held) s s'
     pub in_need : WhenLastAsked source (λ given pieces. IsShortOfOne sizes.unit ended.units given)
         (concat ended.units ++ held) s s'
-    pub reason : EndsFor source ended.stop (within sizes.limit (concat ended.units ++ held)) s s'
+    pub reason : EndsFor source ended.stop sizes.limit (concat ended.units ++ held) s s'

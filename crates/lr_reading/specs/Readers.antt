@@ -12,8 +12,7 @@ use Rattle.lr_lock.specs.declared.frame.Frame.{Frame}
 use Rattle.lr_lock.specs.declared.sizes.TheConstants.{WINDOW_END}
 use Rattle.lr_forms.specs.declared.forms.Input.{Input}
 use Rattle.lr_forms.specs.declared.forms.Input.TheVariants.{Symbols, Units}
-use Rattle.lr_reading.specs.Arrivals.{arrivals_of}
-use Rattle.lr_reading.specs.Inputs.{unit_bytes}
+use Rattle.lr_reading.specs.Inputs.{outcomes_of_bytes, unit_bytes}
 
 -- how many seats there are beside the caller's, how many cells the ring has, and how many windows go through it
 pub record Shared : Type 0 where
@@ -78,10 +77,10 @@ leeway_for (Symbols line) workers = leeway_with (windows_for workers)
 leeway_for (Units form) workers = record { tail = 0; when_asked = 0; at_end = 1; ahead = 1 }
 
 -- At most this many frames may wait as the source is asked, which gave these bytes in these pieces: none where the last
--- piece is short, or where all frames ended a window ago, as in noise.
+-- piece is short, or where all frames ended a marker and a window ago, as in noise.
 abbrev pub MayWait : Input → Leeway → List ℕ → List (List ℕ) → (few : ℕ) → Type 0
 MayWait input leeway bytes pieces few = (leeway.when_asked ≤ few)
-    ⊎ (EndShort pieces ⊎ HaveCome input WINDOW_END bytes (length (arrivals_of input bytes)))
+    ⊎ (EndShort pieces ⊎ HaveCome input WINDOW_END bytes (length (outcomes_of_bytes input bytes)))
 
 pub record ReaderView : Type 0 where
   pub input : Input

@@ -22,14 +22,6 @@ pub record AtSource (X S : Type 0) : Type 0 where
 abbrev pub at_source : {X S : Type 0} → X → S → AtSource X S
 at_source x s = record { state = x; source = s }
 
--- bytes that were taken, and how many may be
-pub record TakenWithin : Type 0 where
-  pub limit : ℕ
-  pub bytes : List ℕ
-
-abbrev pub within : ℕ → List ℕ → TakenWithin
-within limit bytes = record { limit = limit; bytes = bytes }
-
 module _ {S : Type 0} (source : SourceOf S) where
   -- the source was asked once, and gave these bytes
   abbrev pub AsksOnce : S → List ℕ → S → Type 0
@@ -74,12 +66,12 @@ module _ {S : Type 0} (source : SourceOf S) where
     pub few : length bytes ≤ limit
     pub asked : StopsAsking bytes s s'
 
-  -- why no more of them were taken: nothing was left, or the limit was reached, or the source failed
-  abbrev pub EndsFor : Stop → TakenWithin → S → S → Type 0
-  EndsFor End taken s s' = (length taken.bytes < taken.limit) × (source.tells s → source.left s' ≡ [])
+  -- why no more than these bytes were taken: nothing was left, or the limit was reached, or the source failed
+  abbrev pub EndsFor : Stop → (limit : ℕ) → (bytes : List ℕ) → S → S → Type 0
+  EndsFor End limit bytes s s' = (length bytes < limit) × (source.tells s → source.left s' ≡ [])
       × (source.faults s' ≡ source.faults s)
-  EndsFor Limit taken s s' = (length taken.bytes ≡ taken.limit) × (source.faults s' ≡ source.faults s)
-  EndsFor Fault taken s s' = (length taken.bytes < taken.limit) × Rose (source.faults s) (source.faults s')
+  EndsFor Limit limit bytes s s' = (length bytes ≡ limit) × (source.faults s' ≡ source.faults s)
+  EndsFor Fault limit bytes s s' = (length bytes < limit) × Rose (source.faults s) (source.faults s')
 
 -- one unit of the bytes, each of which is n bytes long
 abbrev pub unit_of : ℕ → List ℕ → ℕ → List ℕ

@@ -6,29 +6,21 @@ use Rattle.lr_io.specs.declared.source.Source.{Ghosts as SourceOf}
 use Rattle.lr_reading.specs.Arrivals.{arrivals_of}
 use Rattle.lr_reading.specs.Inputs.{bytes_left_over}
 use Rattle.lr_reading.specs.Readers.{HaveCome, Leeway, MayWait}
-use Rattle.lr_reading.specs.Reading.{IsRead, EndsFor, WhenLastAsked, within}
+use Rattle.lr_reading.specs.Reading.{IsRead, EndsFor, WhenLastAsked}
 use Rattle.lr_reading.specs.declared.arrival.Arrival.{Arrival}
 use Rattle.lr_forms.specs.declared.forms.Input.{Input}
 use Rattle.lr_forms.specs.declared.forms.Input.TheVariants.{Symbols}
 use Rattle.lr_reading.specs.declared.read_counts.ReadCounts.{ReadCounts}
 
--- the bytes that were taken of an input of this form, and how many may be
-pub record InputRead : Type 0 where
-  pub input : Input
-  pub limit : ℕ
-  pub bytes : List ℕ
-
-abbrev pub input_read : Input → ℕ → List ℕ → InputRead
-input_read input limit bytes = record { input = input; limit = limit; bytes = bytes }
-
--- no more are to be had, and this is what the totals tell of them
-pub record ReadsInput {S : Type 0} (source : SourceOf S) (taken : InputRead) (totals : ReadCounts) (s s' : S) : Type
-    0 where
-  pub read : IsRead source taken.limit taken.bytes s s'
-  pub reason : EndsFor source totals.stop (within taken.limit taken.bytes) s s'
-  pub symbols : totals.symbols ≡ length taken.bytes
-  pub frames : totals.frames ≡ length (arrivals_of taken.input taken.bytes)
-  pub left : totals.left ≡ bytes_left_over taken.input taken.bytes
+-- These bytes were taken of an input of this form, which was to give no more than this. No more are to be had, and this is
+-- what the totals tell of them.
+pub record ReadsInput {S : Type 0} (source : SourceOf S) (input : Input) (limit : ℕ) (bytes : List ℕ)
+    (totals : ReadCounts) (s s' : S) : Type 0 where
+  pub read : IsRead source limit bytes s s'
+  pub reason : EndsFor source totals.stop limit bytes s s'
+  pub symbols : totals.symbols ≡ length bytes
+  pub frames : totals.frames ≡ length (arrivals_of input bytes)
+  pub left : totals.left ≡ bytes_left_over input bytes
 
 -- As the source is asked, which gave these bytes in these pieces: of what comes of them the first ones that count, but
 -- for the few that may wait, stand first among these arrivals, and this many at least come after them
@@ -63,7 +55,7 @@ module _ {S C : Type 0} (course : Course S C) where
   -- the input ended, and all that comes of it was taken
   pub record TakesAll (totals : ReadCounts) (before now : Lent S C) : Type 0 where
     pub bytes : List ℕ
-    pub ends : ReadsInput course.source (input_read course.input course.limit bytes) totals before.source now.source
+    pub ends : ReadsInput course.source course.input course.limit bytes totals before.source now.source
     pub in_time : WhenLastAsked course.source
         (ComeInTime course.input course.leeway 0 (arrivals_of course.input bytes)) bytes before.source now.source
     pub taken : (c : C) → course.took c [] before.consumer

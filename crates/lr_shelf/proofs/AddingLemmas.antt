@@ -28,7 +28,7 @@ end_of-push : (items : List Item) (item : Item)
     → end_of (items ++ item ∷ []) ≡ end_of items + 1 + extent_of (head_of_item item)
 end_of-push items item = omega (arith, sum_by_push (λ (i : Item). extent_of (head_of_item i) + 1) items item)
 
-front-push : (version capacity : ℕ) (items : List Item) (item : Item)
+pub front-push : (version capacity : ℕ) (items : List Item) (item : Item)
     → front (header_bytes version capacity) (map item_bytes (items ++ item ∷ []))
     ≡ front (header_bytes version capacity) (map item_bytes items) ++ 1 ∷ item_bytes item
 front-push version capacity items item =
@@ -67,7 +67,7 @@ way_of-push capacity items item =
     ap (λ es. way_made capacity es (end_of items + 1 + extent_of head)) (sym entries)
     ∙ ap (way_made capacity (entries_on (steps_of 19 (items ++ item ∷ [])))) (sym (end_of-push items item))
 
-All-push : (items : List Item) (item : Item) → All IsItem items → IsItem item → All IsItem (items ++ item ∷ [])
+pub All-push : (items : List Item) (item : Item) → All IsItem items → IsItem item → All IsItem (items ++ item ∷ [])
 All-push [] item each is zero d inside = is
 All-push [] item each is (suc k) d inside = absurd (omega arith)
 All-push (first ∷ items) item each is zero d inside = each 0 d (omega arith)

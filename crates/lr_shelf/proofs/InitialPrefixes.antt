@@ -1,24 +1,18 @@
--- Prefixes of files on an initial shelf: before any file, and with one more.
-use Rattle.std.proofs.Common.{◌≡◌, ◌-◌, inl, inr, false, ℕ, List, [], ◌∷◌, ◌++◌, map, take, refl, sym, ◌∙◌, ap}
+-- Prefixes of files after what was there: before any file, and with one more.
+use Rattle.std.proofs.Common.{◌≡◌, ◌-◌, inl, inr, false, ℕ, List, [], ◌∷◌, ◌++◌, take, refl, sym, ◌∙◌, ap}
 use Rattle.std.proofs.Common.{subst, arith, append_assoc, append-nil}
 use Rattle.lr_bits.specs.declared.placed.Placed.{Placed}
 use Rattle.lr_disk.specs.Reads.{IsUnwritten}
 use Rattle.lr_disk.specs.declared.disk.Disk.{Ghosts as DiskOf}
 use Rattle.lr_disk.specs.Pending.{EachImageSince, NothingPending}
 use Rattle.lr_disk.proofs.Moments.{joined, weaker}
-use Rattle.lr_shelf_format.specs.Items.{Item}
-use Rattle.lr_shelf_format.specs.ShelfBytes.{StandsForShelf}
-use Rattle.lr_shelf_format.specs.Way.{IsWay, Way, way_of}
-use Rattle.lr_shelf.specs.Append.{item_for}
+use Rattle.lr_shelf_format.specs.Way.{IsWay, Way}
 use Rattle.lr_shelf.specs.Prefixes.{way_with_files}
 use Rattle.lr_shelf.specs.Kept.{kept_by}
-use Rattle.lr_shelf.specs.Shelf.{IsSettled}
 use Rattle.lr_shelf.specs.declared.shelf.Shelf.{Shelf}
-use Rattle.lr_shelf.specs.InitialShelves.{InitialShelf, OfItems, OfWay, HoldsStill, IsSettledOn}
+use Rattle.lr_shelf.specs.InitialShelves.{InitialShelf, HoldsStill, initial_shelf}
 use Rattle.lr_shelf.specs.InitialShelves.{KeepsOn, LeavesPrefixes, StandsForPrefix, StandsWith}
-use Rattle.lr_shelf.specs.InitialShelves.{StandsWithEither, way_on, with_files}
-use Rattle.lr_shelf.proofs.AddingLemmas.{way_of-push}
-use Rattle.lr_shelf.proofs.InitialShelves.{of_items}
+use Rattle.lr_shelf.specs.InitialShelves.{StandsWithEither}
 
 -- ---- fronts
 
@@ -65,14 +59,13 @@ module _ {D : Type 0} (disk : DiskOf D) (initial : InitialShelf) (d mid d' : D) 
 
 -- ---- what stands there before any file
 
-pub begun_items : (capacity : ℕ) (items : List Item) (bytes : List ℕ) → StandsForShelf bytes capacity items
-    → StandsWith (OfItems capacity items) [] bytes
-begun_items capacity items bytes stands =
-    subst (λ (l : List Item). StandsForShelf bytes capacity l) (sym (append-nil items)) stands
-
-pub begun_way : (way : Way) (bytes : List ℕ) → IsWay bytes way → StandsWith (OfWay way bytes) [] bytes
-begun_way way bytes is =
-    record { is_way = is; room = inl refl; front = sym (append-nil (take (way.end - 1) bytes)) }
+pub begun_way : (way : Way) (bytes : List ℕ) → IsWay bytes way → StandsWith (initial_shelf way bytes) [] bytes
+begun_way way bytes is = record {
+  is_way = is;
+  room = inl refl;
+  each = λ k d inside. absurd (omega (arith, inside));
+  front = sym (append-nil (take (way.end - 1) bytes));
+}
 
 -- a disk that was only read since
 module _ {D : Type 0} (disk : DiskOf D) (initial : InitialShelf) (d d1 : D) (unwritten : IsUnwritten disk d d1)
@@ -90,33 +83,11 @@ module _ {D : Type 0} (disk : DiskOf D) (initial : InitialShelf) (d d1 : D) (unw
 
 -- ---- the shelf in memory
 
--- one of these items
-pub settled_on_items : {D : Type 0} (disk : DiskOf D) (capacity : ℕ) (items : List Item) (shelf : Shelf) (d : D)
-    → IsSettled disk capacity items shelf d → IsSettledOn (OfItems capacity items) [] disk shelf d
-settled_on_items disk capacity items shelf d settled =
-    of_items disk [] shelf d capacity items
-    (subst (λ (l : List Item). IsSettled disk capacity l shelf d) (sym (append-nil items)) settled)
-
-way_of_items : (capacity : ℕ) (files : List Placed) (items : List Item)
-    → way_with_files files (way_of capacity items) ≡ way_of capacity (with_files items files)
-way_of_items capacity [] items = ap (way_of capacity) (sym (append-nil items))
-way_of_items capacity (placed ∷ files) items =
-    ap (way_with_files files) (way_of-push capacity items (item_for placed))
-    ∙ way_of_items capacity files (items ++ item_for placed ∷ [])
-    ∙ ap (way_of capacity) (append_assoc items (item_for placed ∷ []) (map item_for files))
-
-way_on-files : (initial : InitialShelf) (files : List Placed)
-    → way_with_files files (way_on initial []) ≡ way_on initial files
-way_on-files (OfItems capacity items) files =
-    ap (λ (l : List Item). way_with_files files (way_of capacity l)) (append-nil items)
-    ∙ way_of_items capacity files items
-way_on-files (OfWay way bytes) files = refl
-
 -- one that got these files
 pub keeps_on : (initial : InitialShelf) (files : List Placed) (shelf shelf' : Shelf) → KeepsOn initial [] shelf
     → (kept_by shelf').way ≡ way_with_files files (kept_by shelf).way → (kept_by shelf').failed ≡ false
     → KeepsOn initial files shelf'
 keeps_on initial files shelf shelf' kept is working = record {
-  way = is ∙ ap (way_with_files files) kept.way ∙ way_on-files initial files;
+  way = is ∙ ap (way_with_files files) kept.way;
   working = working;
 }

@@ -1,39 +1,34 @@
 -- What files come onto, and what stands there with them.
-use Rattle.std.specs.Prelude.{◌≡◌, ◌⊎◌, ◌≤◌, ◌++◌, ◌∷◌, ℕ, false, min, List, [], length, map}
+use Rattle.std.specs.Prelude.{◌≡◌, ◌⊎◌, ◌≤◌, ◌-◌, ◌++◌, ◌∷◌, ℕ, false, All, List, [], length, map, take}
+use Rattle.std.specs.List.{flat_map}
 use Rattle.lr_bits.specs.declared.placed.Placed.{Placed}
-use Rattle.lr_bits.specs.Sizes.{most_u64}
 use Rattle.lr_disk.specs.declared.disk.Disk.{Ghosts as DiskOf}
 use Rattle.lr_disk.specs.Pending.{EachImageSince, NothingPending}
-use Rattle.lr_shelf_format.specs.Items.{Item}
-use Rattle.lr_shelf_format.specs.ShelfBytes.{StandsForShelf, end_of, entries_of}
-use Rattle.lr_shelf_format.specs.Way.{Way, way_of}
+use Rattle.lr_shelf_format.specs.Items.{IsItem, Item}
+use Rattle.lr_shelf_format.specs.ShelfBytes.{StandsForShelf}
+use Rattle.lr_shelf_format.specs.Way.{IsWay, Way, way_of}
 use Rattle.lr_shelf.specs.Append.{item_for}
-use Rattle.lr_shelf.specs.Prefixes.{HasFilesAfter, HasRoom, end_with, way_with_files}
+use Rattle.lr_shelf.specs.Prefixes.{HasRoom, gated_file, way_with_files}
 use Rattle.lr_shelf.specs.Kept.{kept_by}
 use Rattle.lr_shelf.specs.declared.shelf.Shelf.{Shelf}
 
--- a shelf of this capacity and these items; or bytes that have this way, whatever their records hold
-pub data InitialShelf : Type 0 where
-  OfItems : (capacity : ℕ) (items : List Item) → InitialShelf
-  OfWay : (way : Way) (bytes : List ℕ) → InitialShelf
+-- what is there before any file: bytes, and the way that they have, whatever their records hold
+pub record InitialShelf : Type 0 where
+  pub way : Way
+  pub bytes : List ℕ
 
--- the items, and after them the Add items of these files
-abbrev pub with_files : List Item → List Placed → List Item
-with_files items files = items ++ map item_for files
+abbrev pub initial_shelf : Way → List ℕ → InitialShelf
+initial_shelf way bytes = record { way = way; bytes = bytes }
 
--- the number that the next file gets: how many files stand there, discarded ones too
-abbrev pub next_number : InitialShelf → ℕ
-next_number (OfItems capacity items) = length (entries_of items)
-next_number (OfWay way bytes) = length way.entries
-
-abbrev pub capacity_of : InitialShelf → ℕ
-capacity_of (OfItems capacity items) = capacity
-capacity_of (OfWay way bytes) = way.capacity
-
--- the bytes stand for what was there, and for these files after it
-abbrev pub StandsWith : InitialShelf → List Placed → List ℕ → Type 0
-StandsWith (OfItems capacity items) files bytes = StandsForShelf bytes capacity (with_files items files)
-StandsWith (OfWay way old) files bytes = HasFilesAfter way old files bytes
+-- The bytes stand for what was there, and for these files after it: they have its way with the items of these files at
+-- its end, for which there is room. What stands before the last gate are the bytes that stood before the last gate of
+-- the way, as they were, and then the files, each after an open gate.
+pub record StandsWith (initial : InitialShelf) (files : List Placed) (bytes : List ℕ) : Type 0 where
+  pub is_way : IsWay bytes (way_with_files files initial.way)
+  pub room : HasRoom initial.way files
+  pub each : All IsItem (map item_for files)
+  pub front : take ((way_with_files files initial.way).end - 1) bytes
+      ≡ take (initial.way.end - 1) initial.bytes ++ flat_map gated_file files
 
 -- the bytes stand for what was there and the files that are done, or for one more too
 abbrev pub StandsWithEither : InitialShelf → List Placed → Placed → List ℕ → Type 0
@@ -48,30 +43,10 @@ pub record StandsForPrefix (initial : InitialShelf) (files : List Placed) (n : �
   pub enough : n ≤ length first
   pub stands : StandsWith initial first bytes
 
--- where it ends with these files
-abbrev pub end_with_files : InitialShelf → List Placed → ℕ
-end_with_files (OfItems capacity items) files = end_of (with_files items files)
-end_with_files (OfWay way bytes) files = end_with way.end files
-
--- that end as a refusal tells it: of a way at most the greatest number of 64 bits
-abbrev pub told_end : InitialShelf → List Placed → ℕ
-told_end (OfItems capacity items) files = end_of (with_files items files)
-told_end (OfWay way bytes) files = min (end_with way.end files) most_u64
-
--- there is room for all these files
-abbrev pub AllHaveRoom : InitialShelf → List Placed → Type 0
-AllHaveRoom (OfItems capacity items) files = end_of (with_files items files) ≤ capacity
-AllHaveRoom (OfWay way bytes) files = HasRoom way files
-
--- the way that a shelf in memory keeps then
-abbrev pub way_on : InitialShelf → List Placed → Way
-way_on (OfItems capacity items) files = way_of capacity (with_files items files)
-way_on (OfWay way bytes) files = way_with_files files way
-
 module _ (initial : InitialShelf) (files : List Placed) where
-  -- the shelf in memory keeps that way, and works
+  -- the shelf in memory keeps the way with these files, and works
   pub record KeepsOn (shelf : Shelf) : Type 0 where
-    pub way : (kept_by shelf).way ≡ way_on initial files
+    pub way : (kept_by shelf).way ≡ way_with_files files initial.way
     pub working : (kept_by shelf).failed ≡ false
 
   module _ {D : Type 0} (disk : DiskOf D) where
@@ -100,3 +75,22 @@ module _ {D : Type 0} (disk : DiskOf D) (initial : InitialShelf) where
   pub record HoldsEitherOn (done : List Placed) (placed : Placed) (d : D) : Type 0 where
     pub contents : StandsWithEither initial done placed (disk.contents d)
     pub images : (c : List ℕ) → disk.may_leave d c → StandsWithEither initial done placed c
+
+-- ---- a law
+
+-- the items, and after them the Add items of these files
+abbrev pub with_files : List Item → List Placed → List Item
+with_files items files = items ++ map item_for files
+
+-- the bytes of a shelf of these items, as what is there before any file
+abbrev pub shelf_before : ℕ → List Item → List ℕ → InitialShelf
+shelf_before capacity items bytes = initial_shelf (way_of capacity items) bytes
+
+-- Bytes that stood for a shelf, and stand for what was there and some files, stand for a shelf of the same capacity, of
+-- its items and of the files. And bytes of a shelf stand for it and no file.
+pub record FilesComeOntoShelves : Type 0 where
+  pub none : (capacity : ℕ) (items : List Item) (bytes : List ℕ) → StandsForShelf bytes capacity items
+      → StandsWith (shelf_before capacity items bytes) [] bytes
+  pub some : (capacity : ℕ) (items : List Item) (old bytes : List ℕ) (files : List Placed)
+      → StandsForShelf old capacity items → StandsWith (shelf_before capacity items old) files bytes
+      → StandsForShelf bytes capacity (with_files items files)
