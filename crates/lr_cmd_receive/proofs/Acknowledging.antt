@@ -3,18 +3,18 @@ use Rattle.std.proofs.Common.{◌≡◌, inl, inr, ℕ, ◌+◌, ◌≤◌, List
 use Rattle.std.proofs.Common.{◌∙◌, ap, subst, arith, append_assoc, append-nil, length-append}
 use Rattle.lr_bits.specs.declared.placed.Placed.{Placed}
 use Rattle.lr_causes.specs.Outside.{Outlets, OutletsOf}
-use Rattle.lr_forms.specs.declared.forms.Input.{Input}
 use Rattle.lr_reading.specs.Inputs.{outcomes_of_bytes}
-use Rattle.lr_reading.specs.Readers.{Leeway}
+use Rattle.lr_reading.specs.Readers.{leeway_for}
 use Rattle.lr_reading.proofs.Coming.{come_within, outcomes_counted}
 use Rattle.lr_shelf.specs.InitialShelves.{InitialShelf, HoldsStill, StandsForPrefix, StandsWith}
-use Rattle.lr_shelf.specs.InitialShelves.{StandsWithEither, next_number}
+use Rattle.lr_shelf.specs.InitialShelves.{StandsWithEither}
 use Rattle.lr_shelf.proofs.InitialPrefixes.{front_more}
 use Rattle.lr_cmd_receive.specs.Inputs.{files_of_bytes}
 use Rattle.lr_cmd_receive.specs.Noted.{NotedFile, placed_files}
 use Rattle.lr_cmd_receive.proofs.Noted.{length-placed, placed-append}
-use Rattle.lr_cmd_receive.specs.Reception.{FewWait, taken_bytes}
-use Rattle.lr_cmd_receive.specs.Shelving.{AreAcknowledged, shelved_lines, files_onto}
+use Rattle.lr_cmd_receive.specs.Reception.{FewWait, run_of}
+use Rattle.lr_cmd_receive.specs.Receive.{ReceiveQuery}
+use Rattle.lr_cmd_receive.specs.Shelving.{AreAcknowledged, shelved_lines}
 use Rattle.lr_cmd_receive.proofs.ShelvedLines.{shelved_lines-append}
 
 module _ {D O : Type 0} (world : OutletsOf D O) (initial : InitialShelf) where
@@ -22,8 +22,8 @@ module _ {D O : Type 0} (world : OutletsOf D O) (initial : InitialShelf) where
   pub still_acknowledged : (first others : List NotedFile) (w w' : Outlets D O)
       → HoldsStill initial (placed_files first) world.disk w'.disk
       → (world.out.tells w.out → (text : List ℕ) × (world.out.contents w'.out
-      ≡ world.out.contents w.out ++ (shelved_lines (next_number initial) first ++ text)))
-      → AreAcknowledged world (files_onto initial (first ++ others)) first w w'
+      ≡ world.out.contents w.out ++ (shelved_lines (length initial.way.entries) first ++ text)))
+      → AreAcknowledged world initial (first ++ others) first w w'
   still_acknowledged first others w w' durable told = record {
     others = others;
     split = refl;
@@ -70,8 +70,8 @@ module _ {D O : Type 0} (world : OutletsOf D O) (initial : InitialShelf) where
       → ((c : List ℕ) → world.disk.may_leave w'.disk c
       → StandsWithEither initial (placed_files done) noted.placed c)
       → (world.out.tells w.out → (text : List ℕ) × (world.out.contents w'.out
-      ≡ world.out.contents w.out ++ (shelved_lines (next_number initial) done ++ text)))
-      → AreAcknowledged world (files_onto initial (done ++ noted ∷ [])) done w w'
+      ≡ world.out.contents w.out ++ (shelved_lines (length initial.way.entries) done ++ text)))
+      → AreAcknowledged world initial (done ++ noted ∷ []) done w w'
   either_acknowledged done noted w w' now left told = record {
     others = noted ∷ [];
     split = refl;
@@ -85,13 +85,13 @@ module _ {D O : Type 0} (world : OutletsOf D O) (initial : InitialShelf) where
   -- their lines were put, and nothing else
   pub lines_alone : (first : List NotedFile) (w w' : Outlets D O)
       → (world.out.tells w.out
-      → world.out.contents w'.out ≡ world.out.contents w.out ++ shelved_lines (next_number initial) first)
+      → world.out.contents w'.out ≡ world.out.contents w.out ++ shelved_lines (length initial.way.entries) first)
       → world.out.tells w.out → (text : List ℕ) × (world.out.contents w'.out
-      ≡ world.out.contents w.out ++ (shelved_lines (next_number initial) first ++ text))
+      ≡ world.out.contents w.out ++ (shelved_lines (length initial.way.entries) first ++ text))
   lines_alone first w w' put t = (
     [],
     put t ∙ ap (λ (l : List ℕ). world.out.contents w.out ++ l)
-        (sym (append-nil (shelved_lines (next_number initial) first))),
+        (sym (append-nil (shelved_lines (length initial.way.entries) first))),
   )
 
   fewer : (n m : ℕ) (files : List Placed) (bytes : List ℕ) → n ≤ m → StandsForPrefix initial files m bytes
@@ -107,8 +107,8 @@ module _ {D O : Type 0} (world : OutletsOf D O) (initial : InitialShelf) where
   module _ {w w' : Outlets D O} where
     -- files that are still to come
     pub acknowledged_more : {first files : List NotedFile} (more : List NotedFile)
-        → AreAcknowledged world (files_onto initial files) first w w'
-        → AreAcknowledged world (files_onto initial (files ++ more)) first w w'
+        → AreAcknowledged world initial files first w w'
+        → AreAcknowledged world initial (files ++ more) first w w'
     acknowledged_more {first} {files} more known = record {
       others = known.others ++ more;
       split = ap (λ (l : List NotedFile). l ++ more) known.split ∙ append_assoc first known.others more;
@@ -127,12 +127,12 @@ module _ {D O : Type 0} (world : OutletsOf D O) (initial : InitialShelf) where
 
     -- the first ones of them
     pub acknowledged_first : (first others : List NotedFile) {files : List NotedFile}
-        → AreAcknowledged world (files_onto initial files) (first ++ others) w w'
-        → AreAcknowledged world (files_onto initial files) first w w'
+        → AreAcknowledged world initial files (first ++ others) w w'
+        → AreAcknowledged world initial files first w w'
     acknowledged_first first others {files} known =
         let le : length first ≤ length (first ++ others) = omega (arith, length-append first others) in
-        let lines = shelved_lines (next_number initial) first in
-        let more = shelved_lines (next_number initial + length first) others in
+        let lines = shelved_lines (length initial.way.entries) first in
+        let more = shelved_lines (length initial.way.entries + length first) others in
         record {
           others = others ++ known.others;
           split = known.split ∙ append_assoc first others known.others;
@@ -147,7 +147,7 @@ module _ {D O : Type 0} (world : OutletsOf D O) (initial : InitialShelf) where
               let told = known.told t in (
                 more ++ told.0,
                 told.1 ∙ ap (λ (l : List ℕ). world.out.contents w.out ++ l)
-                    (ap (λ (l : List ℕ). l ++ told.0) (shelved_lines-append (next_number initial) first others)
+                    (ap (λ (l : List ℕ). l ++ told.0) (shelved_lines-append (length initial.way.entries) first others)
                     ∙ append_assoc lines more told.0),
               );
         }
@@ -156,28 +156,28 @@ module _ {D O : Type 0} (world : OutletsOf D O) (initial : InitialShelf) where
   pub all_acknowledged : (files : List NotedFile) (w w' : Outlets D O) → HoldsStill initial
       (placed_files files) world.disk w'.disk
       → (world.out.tells w.out → (text : List ℕ) × (world.out.contents w'.out
-      ≡ world.out.contents w.out ++ (shelved_lines (next_number initial) files ++ text)))
-      → AreAcknowledged world (files_onto initial files) files w w'
+      ≡ world.out.contents w.out ++ (shelved_lines (length initial.way.entries) files ++ text)))
+      → AreAcknowledged world initial files files w w'
   all_acknowledged files w w' durable told =
-      subst (λ (l : List NotedFile). AreAcknowledged world (files_onto initial l) files w w') (append-nil files)
+      subst (λ (l : List NotedFile). AreAcknowledged world initial l files w w') (append-nil files)
       (still_acknowledged files [] w w' durable told)
 
   -- all is worked through
-  pub all_worked : (mend : ℕ) (input : Input) (leeway : Leeway) (bytes : List ℕ) (w w' : Outlets D O)
-      → HoldsStill initial (placed_files (files_of_bytes mend input bytes)) world.disk w'.disk
+  pub all_worked : (asked : ReceiveQuery) (bytes : List ℕ) (w w' : Outlets D O)
+      → HoldsStill initial (placed_files (files_of_bytes asked.mend asked.input bytes)) world.disk w'.disk
       → (world.out.tells w.out → (text : List ℕ) × (world.out.contents w'.out
-      ≡ world.out.contents w.out ++ (shelved_lines (next_number initial) (files_of_bytes mend input bytes) ++ text)))
-      → FewWait world initial (taken_bytes mend input leeway bytes) w w'
+      ≡ world.out.contents w.out ++ (shelved_lines (length initial.way.entries) (files_of_bytes asked.mend asked.input bytes) ++ text)))
+      → FewWait world (run_of asked initial bytes) w w'
   unfolding files_of_bytes
-  all_worked mend input leeway bytes w w' durable told = record {
-    worked = outcomes_of_bytes input bytes;
+  all_worked asked bytes w w' durable told = record {
+    worked = outcomes_of_bytes asked.input bytes;
     late = [];
-    split = sym (append-nil (outcomes_of_bytes input bytes));
+    split = sym (append-nil (outcomes_of_bytes asked.input bytes));
     few = omega arith;
     close = λ count come. omega (
       arith,
-      come_within input leeway.ahead bytes count come,
-      outcomes_counted input bytes,
+      come_within asked.input (leeway_for asked.input asked.workers).ahead bytes count come,
+      outcomes_counted asked.input bytes,
     );
-    acknowledged = all_acknowledged (files_of_bytes mend input bytes) w w' durable told;
+    acknowledged = all_acknowledged (files_of_bytes asked.mend asked.input bytes) w w' durable told;
   }

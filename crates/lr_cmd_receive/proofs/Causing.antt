@@ -26,7 +26,7 @@ use Rattle.lr_causes.specs.declared.cause.Party.TheVariants.{Source, Disk, Outpu
 use Rattle.lr_causes.specs.Causes.{IsCaused, cause_at, counts}
 use Rattle.lr_refusals.specs.Errors.{cause_of}
 use Rattle.lr_causes.specs.Puts.{PutStops}
-use Rattle.lr_reading.specs.Reading.{EndsFor, within}
+use Rattle.lr_reading.specs.Reading.{EndsFor}
 use Rattle.lr_causes.specs.Counts.{CountsTell}
 use Rattle.lr_cmd_receive.specs.First.{SourceBesides}
 use Rattle.lr_cmd_receive.specs.Shelved.{MayStop}
@@ -96,7 +96,7 @@ first_same {D} {O} disk out cause s s' d o d1 d2 o1 o2 first same_disk same_out 
 
 -- why no more was taken is a cause
 pub first_end : {S : Type 0} (source : SourceOf S) (stop : Stop) (limit : ℕ) (bytes : List ℕ) (s s' : S)
-    → EndsFor source stop (within limit bytes) s s'
+    → EndsFor source stop limit bytes s s'
     → CountsTell SourceBesides (cause_at stop) (counts (source.faults s) 0 0) (counts (source.faults s') 0 0)
 first_end source End limit bytes s s' why =
     counts_tell SourceBesides Done (counts (source.faults s) 0 0) (counts (source.faults s') 0 0) tt

@@ -1,6 +1,6 @@
 -- What comes of a disk from which no shelf was loaded, and of one from which it was.
 use Rattle.std.proofs.Common.{◌≡◌, ◌⊎◌, inl, inr, ℕ, List, [], ◌∷◌, ◌++◌, refl, sym, ◌∙◌, ap, subst, arith}
-use Rattle.std.proofs.Common.{Result, Err, MatchResult}
+use Rattle.std.proofs.Common.{Result, Err, MatchResult, length}
 use Rattle.lr_bits.specs.declared.placed.Placed.{Placed}
 use Rattle.lr_bits.proofs.Telling.{tells_still}
 use Rattle.lr_io.specs.declared.source.Source.{Ghosts as SourceOf}
@@ -20,7 +20,6 @@ use Rattle.lr_causes.specs.declared.cause.Refusal.TheVariants.{NotAShelf, Capaci
 use Rattle.lr_causes.specs.Causes.{MayEndBefore}
 use Rattle.lr_refusals.specs.Errors.{cause_of}
 use Rattle.lr_causes.specs.Outside.{counts_in, outlets, outlets_in, world_outlets, World, Outside}
-use Rattle.lr_reading.specs.Readers.{Leeway, leeway_for}
 use Rattle.lr_cmd_receive.proofs.Causing.{first_stays}
 use Rattle.lr_cmd_receive.proofs.Changing.{no_change}
 use Rattle.lr_forms.specs.declared.forms.Input.{Input}
@@ -29,12 +28,12 @@ use Rattle.lr_cmd_receive.specs.First.{SourceBesides}
 use Rattle.lr_cmd_receive.specs.Inputs.{files_of_bytes}
 use Rattle.lr_cmd_receive.specs.Noted.{NotedFile, placed_files}
 use Rattle.lr_reading.specs.Reading.{IsRead}
-use Rattle.lr_shelf.specs.InitialShelves.{InitialShelf, OfItems, OfWay, HoldsStill, StandsWith}
-use Rattle.lr_shelf.specs.InitialShelves.{LeavesPrefixes, next_number}
+use Rattle.lr_shelf.specs.InitialShelves.{InitialShelf, HoldsStill, StandsWith}
+use Rattle.lr_shelf.specs.InitialShelves.{LeavesPrefixes, initial_shelf}
 use Rattle.lr_cmd_receive.specs.Shelved.{MayStop}
-use Rattle.lr_cmd_receive.specs.Receive.{Receives, IsReceiveCause, IsWorkDone, ReceiveRun, intake}
-use Rattle.lr_cmd_receive.specs.Receive.{StopsEarly, run_onto, receive_query}
-use Rattle.lr_cmd_receive.specs.Reception.{FewWait, taken_bytes}
+use Rattle.lr_cmd_receive.specs.Receive.{Receives, IsReceiveCause, IsWorkDone, ReceiveQuery, ReceiveRun}
+use Rattle.lr_cmd_receive.specs.Receive.{StopsEarly}
+use Rattle.lr_cmd_receive.specs.Reception.{FewWait, run_of}
 use Rattle.lr_cmd_receive.specs.Shelving.{StopsInLines, shelved_lines}
 use Rattle.lr_cmd_receive.proofs.Acknowledging.{all_worked, lines_alone}
 use Rattle.lr_cmd_receive.proofs.Growing.{some, none_in}
@@ -43,8 +42,7 @@ use Rattle.lr_cmd_receive.proofs.ReceiveEnding.{got_none}
 use Rattle.lr_cmd_receive.proofs.ShelvingOne.{no_lines}
 use Rattle.lr_cmd_receive.proofs.Taking.{no_bytes}
 use Rattle.lr_cmd_receive.proofs.Timely.{none_put_off}
-use Rattle.lr_reading.specs.Runs.{input_read}
-use Rattle.lr_shelf.proofs.InitialPrefixes.{front_none, begun_items, begun_way}
+use Rattle.lr_shelf.proofs.InitialPrefixes.{front_none, begun_way}
 
 -- ---- the causes of what `load` refuses
 
@@ -126,25 +124,25 @@ full_reads source mend input limit bytes s s' read tells empty done next rest sp
     (sym split ∙ ap placed_files (ap (files_of_bytes mend input) none ∙ no_bytes mend input))
 
 -- and where none were taken nothing waits
-pub nothing_waits : {S D O : Type 0} (world : World S D O) (initial : InitialShelf) (mend : ℕ) (input : Input)
-    (leeway : Leeway) (w w' : Outside S D O) (d : D) → HoldsStill initial [] world.disk d
-    → FewWait (world_outlets world) initial (taken_bytes mend input leeway []) (outlets_in w) (outlets d w.out)
-nothing_waits world initial mend input leeway w w' d still =
-    all_worked (world_outlets world) initial mend input leeway [] (outlets_in w) (outlets d w.out)
-    (subst (λ (l : List NotedFile). HoldsStill initial (placed_files l) world.disk d) (sym (no_bytes mend input)) still)
-    (lines_alone (world_outlets world) initial (files_of_bytes mend input []) (outlets_in w) (outlets d w.out)
+pub nothing_waits : {S D O : Type 0} (world : World S D O) (initial : InitialShelf) (asked : ReceiveQuery)
+    (w : Outside S D O) (d : D) → HoldsStill initial [] world.disk d
+    → FewWait (world_outlets world) (run_of asked initial []) (outlets_in w) (outlets d w.out)
+nothing_waits world initial asked w d still =
+    all_worked (world_outlets world) initial asked [] (outlets_in w) (outlets d w.out)
+    (subst (λ (l : List NotedFile). HoldsStill initial (placed_files l) world.disk d) (sym (no_bytes asked.mend asked.input)) still)
+    (lines_alone (world_outlets world) initial (files_of_bytes asked.mend asked.input []) (outlets_in w) (outlets d w.out)
     (λ t. got_none world.out initial w.out t ∙ ap (λ (l : List NotedFile). world.out.contents w.out
-    ++ shelved_lines (next_number initial) l) (sym (no_bytes mend input))))
+    ++ shelved_lines (length initial.way.entries) l) (sym (no_bytes asked.mend asked.input))))
 
 -- and no line was put
-pub stopped_at_once : {S D O : Type 0} (world : World S D O) (mend : ℕ) (input : Input) (limit : ℕ) (cause : Cause)
+pub stopped_at_once : {S D O : Type 0} (world : World S D O) (asked : ReceiveQuery) (cause : Cause)
     (w w' : Outside S D O) → w'.out ≡ w.out → (cause ≡ Failed Output → ⊥)
-    → StopsEarly world (intake mend (input_read input limit [])) cause w w'
-stopped_at_once world mend input limit cause w w' same other = record {
+    → StopsEarly world asked [] cause w w'
+stopped_at_once world asked cause w w' same other = record {
   number = 0;
-  lines = inl (subst (λ o. StopsInLines world.out cause 0 (files_of_bytes mend input []) w.out o) (sym same)
-      (no_lines world.out cause 0 (files_of_bytes mend input []) w.out other));
-  numbered = λ way told is some. absurd (some (no_bytes mend input));
+  lines = inl (subst (λ o. StopsInLines world.out cause 0 (files_of_bytes asked.mend asked.input []) w.out o) (sym same)
+      (no_lines world.out cause 0 (files_of_bytes asked.mend asked.input []) w.out other));
+  numbered = λ way told is some. absurd (some (no_bytes asked.mend asked.input));
 }
 
 -- ---- memory for reading was refused, before anything was called
@@ -152,7 +150,7 @@ stopped_at_once world mend input limit cause w w' same other = record {
 module _ {S D O : Type 0} (world : World S D O)
     (only_now : (d : D) (c : List ℕ) → world.disk.tells d → world.disk.left_since d (world.disk.moment d) c
     → world.disk.may_leave d c)
-    (mend : ℕ) (input : Input) (workers limit : ℕ) (w : Outside S D O) (none : world.disk.only_read w.disk w.disk) where
+    (asked : ReceiveQuery) (w : Outside S D O) (none : world.disk.only_read w.disk w.disk) where
   -- nobody failed
   none_failed : CountsTell SourceBesides NoMemory (counts_in world w) (counts_in world w)
   none_failed = first_stays NoMemory (world.source.faults w.source) (world.source.faults w.source)
@@ -162,27 +160,31 @@ module _ {S D O : Type 0} (world : World S D O)
   nothing_made : (initial : InitialShelf) → world.disk.tells w.disk
       → StandsWith initial [] (world.disk.contents w.disk)
       → NothingPending world.disk w.disk
-      → Receives world (run_onto initial (intake mend (input_read input limit []))) NoMemory w w
+      → Receives world (run_of asked initial []) NoMemory w w
   nothing_made initial told stands only =
-      receives world mend input initial limit [] w w NoMemory
+      receives world asked initial [] w w NoMemory
       (subst (λ (l : List NotedFile). LeavesPrefixes world.disk initial (placed_files l) w.disk w.disk)
-      (sym (no_bytes mend input))
+      (sym (no_bytes asked.mend asked.input))
       (weaker world.disk.moment world.disk.left_since w.disk w.disk _ _ (front_none initial)
       (stays world.disk only_now w.disk (StandsWith initial []) told
       (λ c left. subst (StandsWith initial []) (sym (only c left)) stands))))
+      (inl tt)
       (record {
-        done = [];
-        rest = [];
-        split = no_bytes mend input;
-        durable = record { stands = stands; durable = only };
-        got = got_none world.out initial w.out;
+        stands = λ done. absurd done;
+        stops = λ undone. inl (record {
+          done = [];
+          rest = [];
+          split = no_bytes asked.mend asked.input;
+          durable = record { stands = stands; durable = only };
+          got = got_none world.out initial w.out;
+        });
       })
       none_failed
 
-  pub not_made : ReceiveRun world (receive_query mend input workers limit) NoMemory w w
+  pub not_made : ReceiveRun world asked NoMemory w w
   not_made = record {
     causes = tt;
-    first = none_failed;
+    counted = none_failed;
     bytes = [];
     read = record { tell = tells_still; moved = λ t. refl; few = omega arith; asked = inl (refl, refl) };
     tell = record {
@@ -190,21 +192,16 @@ module _ {S D O : Type 0} (world : World S D O)
       by_out = tells_still;
     };
     onto = record {
-      shelf = λ capacity items told durable.
-          nothing_made (OfItems capacity items) told
-          (begun_items capacity items (world.disk.contents w.disk) durable.stands) durable.durable;
       way = λ way told is only.
-          nothing_made (OfWay way (world.disk.contents w.disk)) told (begun_way way (world.disk.contents w.disk) is)
-          only;
+          nothing_made (initial_shelf way (world.disk.contents w.disk)) told
+          (begun_way way (world.disk.contents w.disk) is) only;
       keeps_up = λ initial told stands only.
-          none_put_off world mend input workers initial [] w w w.disk
-          (nothing_waits world initial mend input (leeway_for input workers) w w w.disk
+          none_put_off world asked initial [] w w w.disk
+          (nothing_waits world initial asked w w.disk
           (record { stands = stands; durable = only refl })) (inl (refl, refl));
     };
-    lines = record {
-      ended = λ done. absurd done;
-      stopped = λ undone. stopped_at_once world mend input limit NoMemory w w refl (λ is. cc (is));
-    };
+    ended = λ done. absurd done;
+    stopped = λ undone. stopped_at_once world asked NoMemory w w refl (λ is. cc (is));
     wants = record {
       refused = λ at is. cc (is);
       broken = λ at told no. (
@@ -213,9 +210,8 @@ module _ {S D O : Type 0} (world : World S D O)
       );
     };
     capacity = record {
-      full = λ needed most is. cc (is);
+      full = λ way needed most is. cc (is);
       nothing_fits = λ needed most is. cc (is);
-      room = λ done. absurd done;
     };
     alone = record {
       only_read = λ files. only_read_yet world.disk only_now w.disk none;
@@ -224,11 +220,11 @@ module _ {S D O : Type 0} (world : World S D O)
     };
     writes = record {
       outside = λ way told is.
-          no_change way (placed_files (files_of_bytes mend input [])) (world.disk.contents w.disk)
+          no_change way (placed_files (files_of_bytes asked.mend asked.input [])) (world.disk.contents w.disk)
           (world.disk.contents w.disk) refl;
       outside_any_moment = λ way told is only.
           stays world.disk only_now w.disk _ told
-          (λ c image. no_change way (placed_files (files_of_bytes mend input [])) (world.disk.contents w.disk) c
+          (λ c image. no_change way (placed_files (files_of_bytes asked.mend asked.input [])) (world.disk.contents w.disk) c
           (only c image));
     };
   }

@@ -22,7 +22,7 @@ use Rattle.lr_causes.specs.declared.cause.Cause.{Cause}
 use Rattle.lr_causes.specs.declared.cause.Cause.TheVariants.{NoMemory}
 use Rattle.lr_cmd_receive.specs.Noted.{NotedFile, noted_file, noted_of_outcomes, noted_where, noted_with}
 use Rattle.lr_cmd_receive.specs.Noted.{placed_files}
-use Rattle.lr_cmd_receive.specs.Shelving.{AreAcknowledged, Stops, StopsInLines, noted_line, shelved_lines, files_onto}
+use Rattle.lr_cmd_receive.specs.Shelving.{AreAcknowledged, Stops, StopsInLines, noted_line, shelved_lines}
 use Rattle.lr_reading.specs.Arrivals.{HasWholeFrame}
 use Rattle.lr_cmd_receive.specs.Onto.{ChangesFor, ChangesImagesFor}
 use Rattle.lr_shelf.specs.Adding.{StaysOutside}
@@ -171,10 +171,10 @@ module _ {D O : Type 0} (world : OutletsOf D O) where
           (world.disk.faults w2.disk) (world.out.faults w.out) (world.out.faults w1.out)
           (world.out.faults w2.out) first.disk_count first.out_count (stopped.first (first.working works));
       stops = λ initial done before so_far.
-          subst (λ (l : List NotedFile). Stops world (files_onto initial l) cause before w2) (append_assoc done xs ys)
+          subst (λ (l : List NotedFile). Stops world initial l cause before w2) (append_assoc done xs ys)
           (stopped.stops initial (done ++ xs) before (first.shelved initial done before so_far));
       keeps = λ initial done before so_far.
-          subst (λ (l : List NotedFile). AreAcknowledged world (files_onto initial l) done before w2)
+          subst (λ (l : List NotedFile). AreAcknowledged world initial l done before w2)
           (append_assoc done xs ys)
           (acknowledged_first world initial done xs
           (stopped.keeps initial (done ++ xs) before (first.shelved initial done before so_far)));
@@ -219,10 +219,10 @@ module _ {D O : Type 0} (world : OutletsOf D O) where
     tell = stopped.tell;
     first = stopped.first;
     stops = λ initial done before so_far.
-        subst (λ (l : List NotedFile). Stops world (files_onto initial l) cause before w') (append_assoc done xs ys)
+        subst (λ (l : List NotedFile). Stops world initial l cause before w') (append_assoc done xs ys)
         (stops_more world initial before w' (done ++ xs) ys cause (stopped.stops initial done before so_far));
     keeps = λ initial done before so_far.
-        subst (λ (l : List NotedFile). AreAcknowledged world (files_onto initial l) done before w')
+        subst (λ (l : List NotedFile). AreAcknowledged world initial l done before w')
         (append_assoc done xs ys)
         (acknowledged_more world initial ys (stopped.keeps initial done before so_far));
     grown = subst (λ (l : List Placed). GrowsNoMore cause l (shelf_in shelf w) w') (sym (placed-append xs ys))

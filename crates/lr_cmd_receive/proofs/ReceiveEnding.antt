@@ -19,9 +19,8 @@ use Rattle.lr_causes.specs.declared.cause.Cause.TheVariants.{Failed, NoMemory, R
 use Rattle.lr_causes.specs.declared.cause.Party.TheVariants.{Source, Disk, Output}
 use Rattle.lr_causes.specs.declared.cause.Refusal.TheVariants.{Capacity}
 use Rattle.lr_cmd_receive.specs.declared.receive_counts.ReceiveCounts.{ReceiveCounts}
-use Rattle.lr_reading.specs.Readers.{Leeway}
 use Rattle.lr_reading.specs.Reading.{WhenLastAsked}
-use Rattle.lr_reading.specs.Runs.{ReadsInput, input_read}
+use Rattle.lr_reading.specs.Runs.{ReadsInput}
 use Rattle.lr_reading.proofs.Coming.{outcomes_counted}
 use Rattle.lr_forms.specs.declared.forms.Input.{Input}
 use Rattle.lr_causes.specs.Causes.{IsEarlier, cause_at}
@@ -29,13 +28,13 @@ use Rattle.lr_reading.specs.Inputs.{outcomes_of_bytes}
 use Rattle.lr_cmd_receive.specs.Inputs.{files_of_bytes}
 use Rattle.lr_cmd_receive.specs.Noted.{placed_files}
 use Rattle.lr_causes.specs.Puts.{PutFails}
-use Rattle.lr_shelf.specs.InitialShelves.{InitialShelf, HoldsStill, IsSettledOn, StandsWith, next_number}
-use Rattle.lr_cmd_receive.specs.Shelving.{shelved_lines, StopsBy, files_onto}
+use Rattle.lr_shelf.specs.InitialShelves.{InitialShelf, HoldsStill, IsSettledOn, StandsWith}
+use Rattle.lr_cmd_receive.specs.Shelving.{shelved_lines}
 use Rattle.lr_cmd_receive.specs.Shelved.{MayStop, ShelvesSoFar, Grows, GrowsNoMore, shelf_in}
 use Rattle.lr_cmd_receive.specs.Receive.{counts_line, receive_count, receive_last, AreInTime}
-use Rattle.lr_cmd_receive.specs.Receive.{IsWorkDone, Finishes, Ends, intake, run_onto}
+use Rattle.lr_cmd_receive.specs.Receive.{IsWorkDone, ReceiveQuery}
 use Rattle.lr_cmd_receive.specs.Reception.{FewWait, sums_line, PutsLast, LastStops, ReadsAll}
-use Rattle.lr_cmd_receive.specs.Reception.{ReadsSome, EndsOver, EndsRun, taken_bytes, reception}
+use Rattle.lr_cmd_receive.specs.Reception.{ReadsSome, EndsOver, EndsRun, run_of}
 use Rattle.lr_cmd_receive.proofs.Acknowledging.{all_acknowledged, all_worked, lines_alone}
 use Rattle.lr_cmd_receive.proofs.Timely.{all_in_time}
 use Rattle.lr_cmd_receive.proofs.Causing.{first_beside, first_done, first_end, first_out, first_stays}
@@ -48,7 +47,7 @@ use Rattle.lr_shelf.proofs.InitialPrefixes.{front_none}
 -- the last line tells what was read and counted
 pub last_line_is : {S : Type 0} (source : SourceOf S) (mend : ℕ) (input : Input) (limit : ℕ) (bytes : List ℕ)
     (s s' : S) (sums : ReceiveCounts)
-    → ReadsInput source (input_read input limit bytes) sums.totals s s'
+    → ReadsInput source input limit bytes sums.totals s s'
     → numbers sums.counts ≡ mended_numbers_of mend (outcomes_of_bytes input bytes)
     → sums_line sums ≡ receive_last mend input bytes sums.totals.stop
 unfolding receive_last receive_count
@@ -64,9 +63,9 @@ last_line_is source mend input limit bytes s s' sums ends counted =
 
 -- nothing was put
 pub got_none : {O : Type 0} (out : SinkOf O) (initial : InitialShelf) (o : O) → out.tells o
-    → out.contents o ≡ out.contents o ++ shelved_lines (next_number initial) []
+    → out.contents o ≡ out.contents o ++ shelved_lines (length initial.way.entries) []
 got_none out initial o t =
-    sym (ap (λ l. out.contents o ++ l) (shelved_lines-none (next_number initial)) ∙ append-nil (out.contents o))
+    sym (ap (λ l. out.contents o ++ l) (shelved_lines-none (length initial.way.entries)) ∙ append-nil (out.contents o))
 
 -- the shelf is loaded
 pub loaded : {D O : Type 0} (world : OutletsOf D O) (initial : InitialShelf) (w : Outlets D O) (d1 : D) (shelf : Shelf)
@@ -94,7 +93,7 @@ work_at Limit = tt
 work_at Fault = tt
 
 -- the work isn't done where shelving stopped
-no_work : (cause : Cause) → MayStop cause → IsWorkDone cause → ⊥
+pub no_work : (cause : Cause) → MayStop cause → IsWorkDone cause → ⊥
 no_work (Failed Disk) may done = done
 no_work (Failed Output) may done = done
 no_work NoMemory may done = done
@@ -107,7 +106,6 @@ module _ {D O : Type 0} {shelf : Shelf} {files : List Placed} {w w1 : Outlets D 
       → EndsOver cause files (shelf_in shelf w) w1
   over_some cause may stops = record {
     full = stops.full;
-    room = λ done. absurd (no_work cause may done);
     same_disk = λ none. (stops.none none).1;
     silent = λ none early. (stops.none none).2;
     kind = λ none failed. cc (failed, (stops.none none).0);
@@ -120,7 +118,6 @@ module _ {D O : Type 0} {shelf : Shelf} {files : List Placed} {w w1 : Outlets D 
         → EndsOver cause files (shelf_in shelf w) (outlets w1.disk o2)
     over_last cause other no_fault same = record {
       full = λ needed most is. absurd (other needed most is);
-      room = λ done. grown.room;
       same_disk = λ none. (grown.none none).0;
       silent = λ none early. same early ∙ (grown.none none).1;
       kind = λ none failed. no_fault failed;
@@ -135,30 +132,13 @@ module _ {D O : Type 0} {shelf : Shelf} {files : List Placed} {w w1 : Outlets D 
         not_disk : Failed Source ≡ Failed Disk → ⊥
         not_disk is = let same : Source ≡ Disk = cc (is) in cc (same)
 
-module _ {S D O : Type 0} (world : World S D O) (mend : ℕ) (input : Input) (limit : ℕ) where
-  module _ (initial : InitialShelf) (bytes : List ℕ) (w w' : Outside S D O) where
-    ends_of : (cause : Cause)
-        → StopsBy (world_outlets world) (files_onto initial (files_of_bytes mend input bytes)) cause (outlets_in w)
-        (outlets_in w')
-        → Ends world (run_onto initial (intake mend (input_read input limit bytes))) cause w w'
-    ends_of (Failed Disk) stops = stops
-    ends_of (Failed Output) stops = inl stops
-    ends_of NoMemory stops = stops
-    ends_of (Refused (Capacity needed most)) stops = stops
-    ends_of _ stops = absurd stops
-
-    ends_at : (stop : Stop) → Finishes world (run_onto initial (intake mend (input_read input limit bytes))) stop w w'
-        → Ends world (run_onto initial (intake mend (input_read input limit bytes))) (cause_at stop) w w'
-    ends_at End done = inl done
-    ends_at Limit done = inr done
-    ends_at Fault done = done
-
+module _ {S D O : Type 0} (world : World S D O) (asked : ReceiveQuery) where
   module _ (shelf : Shelf) (w w1 : Outside S D O) where
     -- shelving stopped
-    pub ended_some : (leeway : Leeway) (cause : Cause)
-        → ReadsSome world (reception mend input limit leeway) cause (shelf_in shelf w) w1
-        → EndsRun world (reception mend input limit leeway) cause (shelf_in shelf w) w1
-    ended_some waiting cause some =
+    pub ended_some : (cause : Cause)
+        → ReadsSome world asked cause (shelf_in shelf w) w1
+        → EndsRun world asked cause (shelf_in shelf w) w1
+    ended_some cause some =
         let stopped = some.stopped in
         record {
           bytes = some.bytes;
@@ -171,8 +151,7 @@ module _ {S D O : Type 0} (world : World S D O) (mend : ℕ) (input : Input) (li
           ends = λ initial before so_far.
               let stops = stopped.stops initial [] before so_far in (
                 stops.any_moment,
-                ends_of initial some.bytes (outside w.source before.disk before.out)
-                    w1 cause stops.why,
+                record { stands = λ done. absurd (no_work cause stopped.kind done); stops = λ undone. inl stops.why },
                 some.timely initial before so_far,
                 some.in_time initial before so_far,
               );
@@ -183,43 +162,43 @@ module _ {S D O : Type 0} (world : World S D O) (mend : ℕ) (input : Input) (li
           moments = stopped.moments;
         }
 
-    module _ (leeway : Leeway) (sums : ReceiveCounts) (shelf1 : Shelf)
-        (all : ReadsAll world (reception mend input limit leeway) sums (shelf_in shelf w) (shelf_in shelf1 w1)) (o2 : O)
+    module _ (sums : ReceiveCounts) (shelf1 : Shelf)
+        (all : ReadsAll world asked sums (shelf_in shelf w) (shelf_in shelf1 w1)) (o2 : O)
       where
         -- nothing waits, neither now nor when the source was last asked
         none_waits : (initial : InitialShelf) (before : Outlets D O)
-            → HoldsStill initial (placed_files (files_of_bytes mend input all.bytes)) world.disk w1.disk
+            → HoldsStill initial (placed_files (files_of_bytes asked.mend asked.input all.bytes)) world.disk w1.disk
             → (world.out.tells before.out → (text : List ℕ) × (world.out.contents o2
             ≡ world.out.contents before.out
-            ++ (shelved_lines (next_number initial) (files_of_bytes mend input all.bytes) ++ text)))
-            → FewWait (world_outlets world) initial (taken_bytes mend input leeway all.bytes) before
+            ++ (shelved_lines (length initial.way.entries) (files_of_bytes asked.mend asked.input all.bytes) ++ text)))
+            → FewWait (world_outlets world) (run_of asked initial all.bytes) before
             (outlets w1.disk o2)
             × WhenLastAsked world.source (AreInTime (world_outlets world)
-            (files_onto initial (files_of_bytes mend input all.bytes)) mend input leeway before
+            (run_of asked initial all.bytes) before
             (outlets w1.disk o2)) all.bytes w.source w1.source
         none_waits initial before durable told = (
-          all_worked (world_outlets world) initial mend input leeway all.bytes before (outlets w1.disk o2) durable told,
-          all_in_time world.source mend input leeway all.bytes w.source w1.source (world_outlets world) initial
+          all_worked (world_outlets world) initial asked all.bytes before (outlets w1.disk o2) durable told,
+          all_in_time world.source asked all.bytes w.source w1.source (world_outlets world) initial
               before (outlets w1.disk o2) (all_acknowledged (world_outlets world) initial
-              (files_of_bytes mend input all.bytes) before (outlets w1.disk o2) durable told) all.in_time,
+              (files_of_bytes asked.mend asked.input all.bytes) before (outlets w1.disk o2) durable told) all.in_time,
         )
 
-        line_is : sums_line sums ≡ receive_last mend input all.bytes sums.totals.stop
-        line_is = last_line_is world.source mend input limit all.bytes w.source w1.source sums all.ends all.counts
+        line_is : sums_line sums ≡ receive_last asked.mend asked.input all.bytes sums.totals.stop
+        line_is = last_line_is world.source asked.mend asked.input asked.limit all.bytes w.source w1.source sums all.ends all.counts
 
         -- the files were written, and nothing else
         changes : world.disk.tells w.disk
-            → ChangesFor (kept_by shelf).way (placed_files (files_of_bytes mend input all.bytes))
+            → ChangesFor (kept_by shelf).way (placed_files (files_of_bytes asked.mend asked.input all.bytes))
             (world.disk.contents w.disk)
             (world.disk.contents w1.disk)
         changes t =
-            change_for (kept_by shelf).way (placed_files (files_of_bytes mend input all.bytes))
+            change_for (kept_by shelf).way (placed_files (files_of_bytes asked.mend asked.input all.bytes))
             (world.disk.contents w.disk)
             (world.disk.contents w1.disk) all.shelved.grown.room (all.shelved.outside t)
 
         -- a part of the last line was put
         summary_cut : PutFails world.out (sums_line sums) w1.out o2
-            → EndsRun world (reception mend input limit leeway) (Failed Output) (shelf_in shelf w)
+            → EndsRun world asked (Failed Output) (shelf_in shelf w)
             (outside w1.source w1.disk o2)
         summary_cut fails = record {
           bytes = all.bytes;
@@ -241,23 +220,25 @@ module _ {S D O : Type 0} (world : World S D O) (mend : ℕ) (input : Input) (li
                 cut.part,
                 cut.put ∙ ap (λ (l : List ℕ). l ++ cut.part) (so_far.put.put t)
                     ∙ append_assoc (world.out.contents before.out)
-                    (shelved_lines (next_number initial) (files_of_bytes mend input all.bytes)) cut.part,
+                    (shelved_lines (length initial.way.entries) (files_of_bytes asked.mend asked.input all.bytes)) cut.part,
               )) in (
                 so_far.any_moment,
-                inr (record {
-                  stop = sums.totals.stop;
-                  reason = all.ends.reason;
-                  durable = so_far.settled.on_disk;
-                  part = λ t.
-                      let cut = fails.part (so_far.put.tell.told t) in
-                      record {
-                        part = cut.part;
-                        rest = cut.rest;
-                        split = sym line_is ∙ cut.split;
-                        shorter = omega (arith, cut.shorter, ap length line_is);
-                        put = cut.put ∙ ap (λ (l : List ℕ). l ++ cut.part) (so_far.put.put t);
-                      };
-                }),
+                record {
+                  stands = λ done. absurd done;
+                  stops = λ undone. inr (refl, record {
+                    stop = sums.totals.stop;
+                    reason = all.ends.reason;
+                    part = λ t.
+                        let cut = fails.part (so_far.put.tell.told t) in
+                        record {
+                          part = cut.part;
+                          rest = cut.rest;
+                          split = sym line_is ∙ cut.split;
+                          shorter = omega (arith, cut.shorter, ap length line_is);
+                          put = cut.put ∙ ap (λ (l : List ℕ). l ++ cut.part) (so_far.put.put t);
+                        };
+                  }, so_far.settled.on_disk);
+                },
                 none.0,
                 none.1,
               );
@@ -286,7 +267,7 @@ module _ {S D O : Type 0} (world : World S D O) (mend : ℕ) (input : Input) (li
         }
 
         -- there was no memory for it
-        no_summary : o2 ≡ w1.out → EndsRun world (reception mend input limit leeway) NoMemory (shelf_in shelf w)
+        no_summary : o2 ≡ w1.out → EndsRun world asked NoMemory (shelf_in shelf w)
             (outside w1.source w1.disk o2)
         no_summary same = record {
           bytes = all.bytes;
@@ -306,15 +287,18 @@ module _ {S D O : Type 0} (world : World S D O) (mend : ℕ) (input : Input) (li
           ends = λ initial before begun.
               let so_far = all.shelved.shelved initial [] before begun in
               let none = none_waits initial before so_far.settled.on_disk
-              (lines_alone (world_outlets world) initial (files_of_bytes mend input all.bytes) before
+              (lines_alone (world_outlets world) initial (files_of_bytes asked.mend asked.input all.bytes) before
               (outlets w1.disk o2) (λ t. ap world.out.contents same ∙ so_far.put.put t)) in (
                 so_far.any_moment,
                 record {
-                  done = files_of_bytes mend input all.bytes;
-                  rest = [];
-                  split = sym (append-nil (files_of_bytes mend input all.bytes));
-                  durable = so_far.settled.on_disk;
-                  got = λ t. ap world.out.contents same ∙ so_far.put.put t;
+                  stands = λ done. absurd done;
+                  stops = λ undone. inl (record {
+                    done = files_of_bytes asked.mend asked.input all.bytes;
+                    rest = [];
+                    split = sym (append-nil (files_of_bytes asked.mend asked.input all.bytes));
+                    durable = so_far.settled.on_disk;
+                    got = λ t. ap world.out.contents same ∙ so_far.put.put t;
+                  });
                 },
                 none.0,
                 none.1,
@@ -322,9 +306,9 @@ module _ {S D O : Type 0} (world : World S D O) (mend : ℕ) (input : Input) (li
           over = over_last all.shelved.grown o2 NoMemory (λ needed most is. cc (is)) (λ is. cc (is)) (λ early. same);
           ended = λ done. absurd done;
           stopped = λ undone. inl (record {
-            done = files_of_bytes mend input all.bytes;
+            done = files_of_bytes asked.mend asked.input all.bytes;
             rest = [];
-            split = sym (append-nil (files_of_bytes mend input all.bytes));
+            split = sym (append-nil (files_of_bytes asked.mend asked.input all.bytes));
             got = λ other t. ap world.out.contents same ∙ all.shelved.put t;
             cut = λ is. cc (is);
           });
@@ -334,14 +318,14 @@ module _ {S D O : Type 0} (world : World S D O) (mend : ℕ) (input : Input) (li
 
         -- the last line wasn't put
         pub last_stopped : (cause : Cause) → LastStops world.out sums cause w1.out o2
-            → EndsRun world (reception mend input limit leeway) cause (shelf_in shelf w) (outside w1.source w1.disk o2)
+            → EndsRun world asked cause (shelf_in shelf w) (outside w1.source w1.disk o2)
         last_stopped (Failed Output) stops = summary_cut stops
         last_stopped NoMemory stops = no_summary stops
         last_stopped _ stops = absurd stops
 
         -- it was put
         pub all_put : PutsLast world.out sums w1.out o2
-            → EndsRun world (reception mend input limit leeway) (cause_at sums.totals.stop) (shelf_in shelf w)
+            → EndsRun world asked (cause_at sums.totals.stop) (shelf_in shelf w)
             (outside w1.source w1.disk o2)
         all_put put = record {
           bytes = all.bytes;
@@ -354,48 +338,39 @@ module _ {S D O : Type 0} (world : World S D O) (mend : ℕ) (input : Input) (li
           first = λ works. first_done sums.totals.stop (world.source.faults w.source)
               (world.source.faults w1.source) (world.disk.faults w.disk)
               (world.disk.faults w1.disk) (world.out.faults w.out) (world.out.faults o2)
-              (first_end world.source sums.totals.stop limit all.bytes w.source w1.source all.ends.reason)
+              (first_end world.source sums.totals.stop asked.limit all.bytes w.source w1.source all.ends.reason)
               all.shelved.disk_count (put.kept ∙ all.shelved.out_count);
           ends = λ initial before begun.
               let so_far = all.shelved.shelved initial [] before begun in
-              let files = files_of_bytes mend input all.bytes in
+              let files = files_of_bytes asked.mend asked.input all.bytes in
               let none = none_waits initial before so_far.settled.on_disk
               (λ t. (
                 sums_line sums,
                 put.put (so_far.put.tell.told t) ∙ ap (λ (l : List ℕ). l ++ sums_line sums) (so_far.put.put t)
-                    ∙ append_assoc (world.out.contents before.out) (shelved_lines (next_number initial) files)
+                    ∙ append_assoc (world.out.contents before.out) (shelved_lines (length initial.way.entries) files)
                     (sums_line sums),
               )) in (
                 so_far.any_moment,
-                ends_at initial all.bytes (outside w.source before.disk before.out)
-                    (outside w1.source w1.disk o2) sums.totals.stop (record {
-                      reason = all.ends.reason;
-                      durable = so_far.settled.on_disk;
-                      got = λ t.
-                          put.put (so_far.put.tell.told t) ∙ ap (λ (l : List ℕ). l ++ sums_line sums) (so_far.put.put t)
-                          ∙ append_assoc (world.out.contents before.out) (shelved_lines (next_number initial) files)
-                          (sums_line sums)
-                          ∙ ap (λ (l : List ℕ). world.out.contents before.out
-                          ++ (shelved_lines (next_number initial) files ++ l)) line_is;
-                    }),
+                record {
+                  stands = λ done. so_far.settled.on_disk;
+                  stops = λ undone. absurd (undone (work_at sums.totals.stop));
+                },
                 none.0,
                 none.1,
               );
           over = over_done all.shelved.grown o2 sums.totals.stop;
-          ended = λ done. (
-            sums.totals.stop,
-            refl,
-            record {
-              reason = all.ends.reason;
-              got = λ t.
-                  let lines = shelved_lines (length (kept_by shelf).way.entries)
-                  (files_of_bytes mend input all.bytes) in
-                  put.put (all.shelved.tell.by_out.told t) ∙ ap (λ (l : List ℕ). l ++ sums_line sums)
-                  (all.shelved.put t)
-                  ∙ append_assoc (world.out.contents w.out) lines (sums_line sums)
-                  ∙ ap (λ (l : List ℕ). world.out.contents w.out ++ (lines ++ l)) line_is;
-            },
-          );
+          ended = λ done. record {
+            stop = sums.totals.stop;
+            is = refl;
+            reason = all.ends.reason;
+            got = λ t.
+                let lines = shelved_lines (length (kept_by shelf).way.entries)
+                (files_of_bytes asked.mend asked.input all.bytes) in
+                put.put (all.shelved.tell.by_out.told t) ∙ ap (λ (l : List ℕ). l ++ sums_line sums)
+                (all.shelved.put t)
+                ∙ append_assoc (world.out.contents w.out) lines (sums_line sums)
+                ∙ ap (λ (l : List ℕ). world.out.contents w.out ++ (lines ++ l)) line_is;
+          };
           stopped = λ undone. absurd (undone (work_at sums.totals.stop));
           outside = changes;
           moments = λ t only. (all.shelved.moments t only).1;

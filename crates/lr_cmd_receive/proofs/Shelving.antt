@@ -1,13 +1,13 @@
 -- One file is put onto the shelf, or shelving stops there.
-use Rattle.std.proofs.Common.{◌≡◌, inl, inr, false, true, ◌+◌, ℕ, List, [], ◌∷◌, ◌++◌, length, refl, sym}
+use Rattle.std.proofs.Common.{◌≡◌, inl, inr, false, true, ◌+◌, ℕ, List, [], ◌∷◌, ◌++◌, length, min, refl, sym}
 use Rattle.std.proofs.Common.{◌∙◌, ap, subst, arith, append_assoc, append-nil}
-use Rattle.lr_bits.specs.File.{IsFile}
+use Rattle.lr_bits.specs.Sizes.{most_u64}
 use Rattle.lr_bits.specs.declared.placed.Placed.{Placed}
 use Rattle.lr_bits.proofs.Telling.{tells_both}
 use Rattle.lr_io.specs.declared.sink.Sink.{Ghosts as SinkOf}
 use Rattle.lr_disk.specs.declared.disk.Disk.{Ghosts as DiskOf}
 use Rattle.lr_disk.specs.Pending.{EachImageSince}
-use Rattle.lr_shelf_format.specs.Items.{Item}
+use Rattle.lr_shelf_format.specs.Items.{IsItem, Item}
 use Rattle.lr_shelf.specs.Append.{IsAppendRefusal, item_for}
 use Rattle.lr_shelf.specs.Kept.{KeptShelf, kept_by}
 use Rattle.lr_shelf.specs.declared.shelf.Shelf.{Shelf}
@@ -22,10 +22,11 @@ use Rattle.lr_causes.specs.declared.cause.Party.TheVariants.{Disk, Output}
 use Rattle.lr_causes.specs.declared.cause.Refusal.TheVariants.{Capacity}
 use Rattle.lr_refusals.specs.Errors.{cause_of}
 use Rattle.lr_causes.specs.Puts.{Puts, PutFails}
-use Rattle.lr_shelf.specs.InitialShelves.{InitialShelf, HoldsStill, IsSettledOn, next_number, LeavesPrefixes}
-use Rattle.lr_shelf.specs.InitialShelves.{StandsWith, StandsWithEither, end_with_files, told_end}
+use Rattle.lr_shelf.specs.InitialShelves.{InitialShelf, HoldsStill, IsSettledOn, LeavesPrefixes}
+use Rattle.lr_shelf.specs.InitialShelves.{StandsWith, StandsWithEither}
+use Rattle.lr_shelf.specs.Prefixes.{end_with}
 use Rattle.lr_cmd_receive.specs.Noted.{NotedFile, placed_files}
-use Rattle.lr_cmd_receive.specs.Shelving.{noted_line, shelved_lines, StandsForOneFileMore, StopsBy, Stops, files_onto}
+use Rattle.lr_cmd_receive.specs.Shelving.{noted_line, shelved_lines, StandsForOneFileMore, StopsBy, Stops}
 use Rattle.lr_cmd_receive.specs.Shelved.{MayStop, ShelvesSoFar, shelf_in}
 use Rattle.lr_shelf.proofs.InitialShelves.{capacity_is, ends, needed_is, number_is}
 use Rattle.lr_cmd_receive.proofs.Noted.{length-placed, placed-append}
@@ -72,8 +73,8 @@ module _ {D O : Type 0} (world : OutletsOf D O) (initial : InitialShelf) (w w' :
   longer : (done rest : List NotedFile) → files ≡ done ++ rest → files ++ more ≡ done ++ (rest ++ more)
   longer done rest split = ap (λ (l : List NotedFile). l ++ more) split ∙ append_assoc done rest more
 
-  stops_by_more : (cause : Cause) → StopsBy world (files_onto initial files) cause w w'
-      → StopsBy world (files_onto initial (files ++ more)) cause w w'
+  stops_by_more : (cause : Cause) → StopsBy world initial files cause w w'
+      → StopsBy world initial (files ++ more) cause w w'
   stops_by_more (Failed Disk) why = record {
     done = why.done;
     rest = why.rest ++ more;
@@ -104,6 +105,7 @@ module _ {D O : Type 0} (world : OutletsOf D O) (initial : InitialShelf) (w w' :
     split = longer why.done (why.next ∷ why.rest) why.split;
     durable = why.durable;
     got = why.got;
+    is_item = why.is_item;
     needs = why.needs;
     of = why.of;
     over = why.over;
@@ -111,8 +113,8 @@ module _ {D O : Type 0} (world : OutletsOf D O) (initial : InitialShelf) (w w' :
   stops_by_more _ why = absurd why
 
   -- shelving that stopped among some files stopped among more of them
-  pub stops_more : (cause : Cause) → Stops world (files_onto initial files) cause w w'
-      → Stops world (files_onto initial (files ++ more)) cause w w'
+  pub stops_more : (cause : Cause) → Stops world initial files cause w w'
+      → Stops world initial (files ++ more) cause w w'
   stops_more cause stops = record {
     any_moment =
         subst (λ (l : List Placed). LeavesPrefixes world.disk initial l w.disk w'.disk) (sym (placed-append files more))
@@ -132,7 +134,7 @@ module _ {D O : Type 0} (world : OutletsOf D O) (initial : InitialShelf) (done :
   out = world.out
 
   -- no memory for what comes next
-  pub out_of_memory : (more : List NotedFile) → Stops world (files_onto initial (done ++ more)) NoMemory w w1
+  pub out_of_memory : (more : List NotedFile) → Stops world initial (done ++ more) NoMemory w w1
   out_of_memory more = record {
     any_moment = subst (λ (l : List Placed). LeavesPrefixes disk initial l w.disk w1.disk) (sym
         (placed-append done more))
@@ -159,12 +161,12 @@ module _ {D O : Type 0} (world : OutletsOf D O) (initial : InitialShelf) (done :
         (fronts_with disk initial w.disk w1.disk d2 (placed_files done) so_far.any_moment placed run)
 
     -- the append answered an error
-    pub append_stopped : (e : ShelfError) → IsFile noted.placed.file
+    pub append_stopped : (e : ShelfError) → IsItem (item_for noted.placed)
         → StandsWithEither initial (placed_files done) noted.placed (disk.contents d2)
         → ((c : List ℕ) → disk.may_leave d2 c → StandsWithEither initial (placed_files done) noted.placed c)
         → ((e ≡ Disk' → ⊥) → d2 ≡ w1.disk)
         → IsAppendRefusal (item_for noted.placed) (kept_by shelf) e
-        → Stops world (files_onto initial (done ++ noted ∷ [])) (cause_of e) w (outlets d2 w1.out)
+        → Stops world initial (done ++ noted ∷ []) (cause_of e) w (outlets d2 w1.out)
     append_stopped Disk' is now left stays refusal = record {
       any_moment = moments;
       why = record {
@@ -188,15 +190,16 @@ module _ {D O : Type 0} (world : OutletsOf D O) (initial : InitialShelf) (done :
             durable = subst (λ (x : D). HoldsStill initial (placed_files done) disk x)
                 (sym same) so_far.settled.on_disk;
             got = so_far.put.put;
-            needs = refusal.2 ∙ needed_is disk (placed_files done) shelf w1.disk placed is initial so_far.settled
-                ∙ ap (λ (l : List Placed). told_end initial l) moved;
+            is_item = is;
+            needs = refusal.2 ∙ needed_is disk (placed_files done) shelf w1.disk placed initial so_far.settled
+                ∙ ap (λ (l : List Placed). min (end_with initial.way.end l) most_u64) moved;
             of = refusal.3 ∙ capacity_is disk (placed_files done) shelf w1.disk initial so_far.settled;
             over = omega (
               arith,
               refusal.1,
               capacity_is disk (placed_files done) shelf w1.disk initial so_far.settled,
               ends disk (placed_files done) shelf w1.disk placed initial so_far.settled,
-              ap (λ (l : List Placed). end_with_files initial l) moved,
+              ap (λ (l : List Placed). end_with initial.way.end l) moved,
             );
           };
         }
@@ -220,18 +223,18 @@ module _ {D O : Type 0} (world : OutletsOf D O) (initial : InitialShelf) (done :
     module _ (shelf2 : Shelf) (settled : IsSettledOn initial (placed_files (done ++ noted ∷ [])) disk shelf2 d2) (n : ℕ)
         (text : List ℕ) (place : n ≡ length (kept_by shelf).way.entries) (is : text ≡ noted_line n noted)
         (o2 : O) where
-      line_is : text ≡ noted_line (next_number initial + length done) noted
+      line_is : text ≡ noted_line (length initial.way.entries + length done) noted
       line_is =
           is
           ∙ ap (λ (k : ℕ). noted_line k noted)
           (place ∙ number_is disk (placed_files done) shelf w1.disk initial so_far.settled
-          ∙ ap (λ (k : ℕ). next_number initial + k) (length-placed done))
+          ∙ ap (λ (k : ℕ). length initial.way.entries + k) (length-placed done))
 
-      lines_are : shelved_lines (next_number initial) (done ++ noted ∷ [])
-          ≡ shelved_lines (next_number initial) done ++ text
+      lines_are : shelved_lines (length initial.way.entries) (done ++ noted ∷ [])
+          ≡ shelved_lines (length initial.way.entries) done ++ text
       lines_are =
-          shelved_lines-push (next_number initial) done noted
-          ∙ ap (λ (l : List ℕ). shelved_lines (next_number initial) done ++ l) (sym line_is)
+          shelved_lines-push (length initial.way.entries) done noted
+          ∙ ap (λ (l : List ℕ). shelved_lines (length initial.way.entries) done ++ l) (sym line_is)
 
       -- the line was put
       pub line_put : disk.faults d2 ≡ disk.faults w1.disk → Puts out text w1.out o2
@@ -244,7 +247,7 @@ module _ {D O : Type 0} (world : OutletsOf D O) (initial : InitialShelf) (done :
           put = λ t.
               put.put (so_far.put.tell.told t)
               ∙ ap (λ (l : List ℕ). l ++ text) (so_far.put.put t)
-              ∙ append_assoc (out.contents w.out) (shelved_lines (next_number initial) done) text
+              ∙ append_assoc (out.contents w.out) (shelved_lines (length initial.way.entries) done) text
               ∙ ap (λ (l : List ℕ). out.contents w.out ++ l) (sym lines_are);
           kept = put.kept ∙ so_far.put.kept;
         };
@@ -253,7 +256,7 @@ module _ {D O : Type 0} (world : OutletsOf D O) (initial : InitialShelf) (done :
 
       -- a part of the line was put
       pub line_stopped : PutFails out text w1.out o2
-          → Stops world (files_onto initial (done ++ noted ∷ [])) (Failed Output) w (outlets d2 o2)
+          → Stops world initial (done ++ noted ∷ []) (Failed Output) w (outlets d2 o2)
       line_stopped fails = record {
         any_moment = moments;
         why = record {

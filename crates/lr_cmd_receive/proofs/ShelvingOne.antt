@@ -3,7 +3,6 @@ use Rattle.std.proofs.Common.{◌≡◌, inl, inr, ◌+◌, ◌-◌, ◌≤◌, 
 use Rattle.std.proofs.Common.{◌∙◌, ap, subst, arith, append_assoc, append-nil, length-append}
 use Rattle.std.proofs.Common.{⊎_elim, Option, Result, Ok, Err, OnOk}
 use Rattle.std.proofs.lemmas.Bool.{cases_lt}
-use Rattle.lr_bits.specs.File.{IsFile}
 use Rattle.lr_bits.specs.declared.placed.Placed.{Placed}
 use Rattle.lr_bits.specs.Sizes.{most_u64}
 use Rattle.lr_bits.proofs.Telling.{tells_still}
@@ -11,7 +10,7 @@ use Rattle.lr_io.specs.declared.sink.Sink.{Ghosts as SinkOf}
 use Rattle.lr_disk.specs.declared.disk.Disk.{Ghosts as DiskOf}
 use Rattle.lr_disk.specs.Pending.{EachImageSince}
 use Rattle.lr_disk.proofs.Moments.{weaker}
-use Rattle.lr_shelf_format.specs.Items.{Item}
+use Rattle.lr_shelf_format.specs.Items.{IsItem, Item}
 use Rattle.lr_shelf.specs.Adding.{StaysOutside}
 use Rattle.lr_shelf.specs.Adds.{new_end}
 use Rattle.lr_shelf.specs.Append.{Appends, IsAppendRefusal, item_for}
@@ -28,7 +27,7 @@ use Rattle.lr_causes.specs.declared.cause.Cause.TheVariants.{Failed, NoMemory}
 use Rattle.lr_causes.specs.declared.cause.Party.TheVariants.{Disk, Output}
 use Rattle.lr_refusals.specs.Errors.{cause_of}
 use Rattle.lr_causes.specs.Puts.{Puts, PutFails}
-use Rattle.lr_shelf.specs.InitialShelves.{InitialShelf, IsSettledOn, next_number, StandsWith, StandsWithEither}
+use Rattle.lr_shelf.specs.InitialShelves.{InitialShelf, IsSettledOn, StandsWith, StandsWithEither}
 use Rattle.lr_shelf.specs.Prefixes.{HasRoom, end_with}
 use Rattle.lr_cmd_receive.specs.Onto.{ChangesImagesFor}
 use Rattle.lr_cmd_receive.specs.Noted.{NotedFile, noted_file, placed_files}
@@ -172,15 +171,15 @@ module _ {D O : Type 0} (disk : DiskOf D)
     (leaves_contents : (d : D) → disk.tells d → disk.may_leave d (disk.contents d))
     (counts_now : (d : D) (t : ℕ) (c : List ℕ) → disk.tells d → t ≤ disk.moment d → disk.may_leave d c
     → disk.left_since d t c)
-    (out : SinkOf O) (placed : Placed) (fillers : Option ℕ) (shelf shelf' : Shelf) (d d' : D) (o : O) where
+    (out : SinkOf O) (placed : Placed) (is_item : IsItem (item_for placed)) (fillers : Option ℕ)
+    (shelf shelf' : Shelf) (d d' : D) (o : O) where
   abbrev noted : NotedFile
   noted = noted_file placed fillers
 
   -- it wasn't appended
-  pub one_refused : (e : ShelfError) → IsFile placed.file
-      → Appends disk placed (shelf_on shelf d) (shelf_on shelf' d') (Err e)
+  pub one_refused : (e : ShelfError) → Appends disk placed (shelf_on shelf d) (shelf_on shelf' d') (Err e)
       → StopsShelving (outlets_of disk out) (cause_of e) (noted ∷ []) (shelf_in shelf (outlets d o)) (outlets d' o)
-  one_refused e is appends =
+  one_refused e appends =
       let adds = appends.adds in
       record {
         kind = append_kind (item_for placed) (kept_by shelf) e appends.refused;
@@ -193,21 +192,21 @@ module _ {D O : Type 0} (disk : DiskOf D)
         stops = λ initial done before so_far.
             let settled = so_far.settled in
             append_stopped (outlets_of disk out) initial done shelf before (outlets d o) so_far noted d'
-            (moments_on disk leaves_contents counts_now (placed_files done) placed shelf shelf' d d'
+            (moments_on disk leaves_contents counts_now (placed_files done) placed is_item shelf shelf' d d'
             (Err e) adds initial settled)
-            e is
-            (now_on disk leaves_contents counts_now (placed_files done) placed shelf shelf' d d'
+            e is_item
+            (now_on disk leaves_contents counts_now (placed_files done) placed is_item shelf shelf' d d'
             (Err e) adds initial settled)
-            (left_on disk leaves_contents counts_now (placed_files done) placed shelf shelf' d d'
+            (left_on disk leaves_contents counts_now (placed_files done) placed is_item shelf shelf' d d'
             (Err e) adds initial settled)
             (λ other. ⊎_elim (λ is. absurd (other is)) (λ same. same.0) adds.untouched)
             appends.refused;
         keeps = λ initial done before so_far.
             let settled = so_far.settled in
             either_acknowledged (outlets_of disk out) initial done noted before (outlets d' o)
-            (now_on disk leaves_contents counts_now (placed_files done) placed shelf shelf' d d'
+            (now_on disk leaves_contents counts_now (placed_files done) placed is_item shelf shelf' d d'
             (Err e) adds initial settled)
-            (left_on disk leaves_contents counts_now (placed_files done) placed shelf shelf' d d'
+            (left_on disk leaves_contents counts_now (placed_files done) placed is_item shelf shelf' d d'
             (Err e) adds initial settled)
             (lines_alone (outlets_of disk out) initial done before (outlets d' o) so_far.put.put);
         grown = not_appended disk placed shelf shelf' d d' o (Err e) appends e appends.refused;
@@ -243,12 +242,12 @@ module _ {D O : Type 0} (disk : DiskOf D)
       settled_now : IsSettledOn initial (placed_files (done ++ noted ∷ [])) disk shelf' d'
       settled_now =
           subst (λ (l : List Placed). IsSettledOn initial l disk shelf' d') (sym (placed-append done (noted ∷ [])))
-          (settled_on disk leaves_contents counts_now (placed_files done) placed shelf shelf' d d' number appends.adds
+          (settled_on disk leaves_contents counts_now (placed_files done) placed is_item shelf shelf' d d' number appends.adds
           initial so_far.settled)
 
       run : EachImageSince disk d d' (StandsWithEither initial (placed_files done) placed)
       run =
-          moments_on disk leaves_contents counts_now (placed_files done) placed shelf shelf' d d'
+          moments_on disk leaves_contents counts_now (placed_files done) placed is_item shelf shelf' d d'
           (Ok number) appends.adds initial
           so_far.settled
 
@@ -313,7 +312,7 @@ module _ {D O : Type 0} (disk : DiskOf D)
             length-placed (done ++ noted ∷ []),
             length-append done (noted ∷ []),
           ) in
-          let lines = shelved_lines (next_number initial) done in
+          let lines = shelved_lines (length initial.way.entries) done in
           let still = (settled_now initial done before so_far).on_disk in record {
             others = noted ∷ [];
             split = refl;

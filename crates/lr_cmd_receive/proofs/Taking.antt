@@ -23,20 +23,21 @@ use Rattle.lr_cmd_receive.specs.declared.shelver.Shelver.{Shelver}
 use Rattle.lr_cmd_receive.specs.declared.receive_counts.ReceiveCounts.{ReceiveCounts}
 use Rattle.lr_cmd_receive.specs.Inputs.{files_of_bytes}
 use Rattle.lr_cmd_receive.specs.Noted.{NotedFile, noted_of_outcomes}
-use Rattle.lr_cmd_receive.specs.Reception.{FewWait, ReadsAll, ReadsSome, taken_bytes, reception}
+use Rattle.lr_cmd_receive.specs.Reception.{FewWait, ReadsAll, ReadsSome, run_of}
+use Rattle.lr_cmd_receive.specs.Receive.{receive_query}
 use Rattle.lr_cmd_receive.specs.Shelved.{HasShelved, ShelvesSoFar, StopsShelving, Gains, GainsNoMore}
 use Rattle.lr_cmd_receive.specs.Shelved.{shelf_in, one_more}
 use Rattle.lr_cmd_receive.specs.ShelverTaken.{HasSameParts, ShelverTook, ShelverStopped, files_of_arrivals}
 use Rattle.lr_cmd_receive.specs.ShelverTaken.{lent_to, mend_of}
 use Rattle.lr_layers.proofs.Pushing.{both_kinds}
-use Rattle.lr_cmd_receive.specs.Shelving.{AreAcknowledged, files_onto}
+use Rattle.lr_cmd_receive.specs.Shelving.{AreAcknowledged}
 use Rattle.lr_cmd_receive.proofs.FirstFiles.{files_first}
 use Rattle.lr_cmd_receive.proofs.Timely.{all_come_first, worked_in_time}
 use Rattle.lr_cmd_receive.proofs.Acknowledging.{acknowledged_more}
 use Rattle.lr_cmd_receive.proofs.Pieces.{shelved_none, shelved_on, stopped_after, stopped_before}
 use Rattle.lr_cmd_receive.proofs.ShelvingOne.{no_line}
 use Rattle.lr_causes.specs.Outside.{Outlets, outlets_of, outside, world_of}
-use Rattle.lr_reading.specs.Readers.{Leeway}
+use Rattle.lr_reading.specs.Readers.{leeway_for}
 use Rattle.lr_shelf.specs.InitialShelves.{InitialShelf}
 
 -- no outcomes have no files
@@ -112,7 +113,7 @@ module _ {D O : Type 0} (disk : DiskOf D) (out : SinkOf O) where
           split = sym (append-nil arrivals);
           one = omega arith;
           keeps = λ initial start so_far.
-              subst (λ (l : List NotedFile). AreAcknowledged (outlets_of disk out) (files_onto initial l) files start
+              subst (λ (l : List NotedFile). AreAcknowledged (outlets_of disk out) initial l files start
               (lent_to now))
               (append-nil files)
               ((no_line (outlets_of disk out) [] now.shelf.now (lent_to now)).keeps initial files start
@@ -169,7 +170,7 @@ module _ {D O : Type 0} (disk : DiskOf D) (out : SinkOf O) where
         one = omega arith;
         keeps = λ initial start so_far.
             let files = files_of_arrivals (mend_of before) arrivals in
-            subst (λ (l : List NotedFile). AreAcknowledged (outlets_of disk out) (files_onto initial l) files start
+            subst (λ (l : List NotedFile). AreAcknowledged (outlets_of disk out) initial l files start
             (lent_to now'))
             (sym gains.files ∙ is)
             (gains.stopped.keeps initial files start (took.shelved.shelved initial [] start so_far));
@@ -180,14 +181,14 @@ module _ {D O : Type 0} (disk : DiskOf D) (out : SinkOf O) where
 module _ {S D O : Type 0} (source : SourceOf S) (disk : DiskOf D) (out : SinkOf O) (input : Input) (limit : ℕ)
     {s s' : S} {before now : Shelver D O} (begun : ShelverTook (outlets_of disk out) before [] before) where
   -- all files were shelved
-  received_all : (leeway : Leeway) (sums : ReceiveCounts)
-      → TakesAll (course_of source (ShelverTook (outlets_of disk out)) input limit leeway) sums.totals
+  received_all : (workers : ℕ) (sums : ReceiveCounts)
+      → TakesAll (course_of source (ShelverTook (outlets_of disk out)) input limit (leeway_for input workers)) sums.totals
       (lent s before) (lent s' now)
       → sums.counts ≡ now.counts
-      → ReadsAll (world_of source disk out) (reception (mend_of before) input limit leeway) sums
+      → ReadsAll (world_of source disk out) (receive_query (mend_of before) input workers limit) sums
       (shelf_in before.shelf.now (outside s before.disk.now before.out.now))
       (shelf_in now.shelf.now (outside s' now.disk.now now.out.now))
-  received_all leeway sums all same =
+  received_all workers sums all same =
       let took = all.taken before begun in
       record {
         bytes = all.bytes;
@@ -197,23 +198,23 @@ module _ {S D O : Type 0} (source : SourceOf S) (disk : DiskOf D) (out : SinkOf 
         shelved = subst (λ (l : List NotedFile). HasShelved (outlets_of disk out) l
             (shelf_in before.shelf.now (lent_to before)) (shelf_in now.shelf.now (lent_to now)))
             (sym (files_all (mend_of before) input all.bytes)) took.shelved;
-        in_time = all_come_first source (mend_of before) input leeway all.bytes s s' all.in_time;
+        in_time = all_come_first source (receive_query (mend_of before) input workers limit) all.bytes s s' all.in_time;
       }
 
   -- they were not
-  received_some : (leeway : Leeway) (cause : Cause)
-      → TakesSome (course_of source (ShelverTook (outlets_of disk out)) input limit leeway)
+  received_some : (workers : ℕ) (cause : Cause)
+      → TakesSome (course_of source (ShelverTook (outlets_of disk out)) input limit (leeway_for input workers))
       (ShelverStopped (outlets_of disk out)) cause
       (lent s before) (lent s' now)
-      → ReadsSome (world_of source disk out) (reception (mend_of before) input limit leeway) cause
+      → ReadsSome (world_of source disk out) (receive_query (mend_of before) input workers limit) cause
       (shelf_in before.shelf.now (outside s before.disk.now before.out.now)) (outside s' now.disk.now now.out.now)
-  received_some leeway cause some =
+  received_some workers cause some =
       let halted = some.stops before begun in
       let stopped = halted.stopped in
       let first = files_first (mend_of before) input some.bytes some.passed some.rest some.split in
       let timely : (initial : InitialShelf) (start : Outlets D O)
       → ShelvesSoFar (outlets_of disk out) initial [] start (shelf_in before.shelf.now (lent_to before))
-      → FewWait (outlets_of disk out) initial (taken_bytes (mend_of before) input leeway some.bytes) start
+      → FewWait (outlets_of disk out) (run_of (receive_query (mend_of before) input workers limit) initial some.bytes) start
       (lent_to now) =
       λ initial start so_far. record {
         worked = outcomes_of_arrivals halted.worked;
@@ -238,7 +239,7 @@ module _ {S D O : Type 0} (source : SourceOf S) (disk : DiskOf D) (out : SinkOf 
               halted.one,
               length-map halted.worked (λ (a : Arrival). a.outcome),
             )) (cases_lt count 1);
-        acknowledged = subst (λ (l : List NotedFile). AreAcknowledged (outlets_of disk out) (files_onto initial l)
+        acknowledged = subst (λ (l : List NotedFile). AreAcknowledged (outlets_of disk out) initial l
             (files_of_arrivals (mend_of before) halted.worked) start (lent_to now)) (sym first.1)
             (acknowledged_more (outlets_of disk out) initial first.0 (halted.keeps initial start so_far));
       } in
@@ -254,7 +255,7 @@ module _ {S D O : Type 0} (source : SourceOf S) (disk : DiskOf D) (out : SinkOf 
             let later = some.first line symbols told few calm in
             files_first (mend_of before) input (some.bytes ++ source.left s') some.passed later.0 later.1;
         timely = timely;
-        in_time = λ initial start so_far. worked_in_time source (mend_of before) input leeway some.bytes s s'
+        in_time = λ initial start so_far. worked_in_time source (receive_query (mend_of before) input workers limit) some.bytes s s'
             (outlets_of disk out) initial start (lent_to now) some.passed some.rest halted.worked halted.late
             some.split
             halted.split halted.one (timely initial start so_far) refl some.in_time;
@@ -262,25 +263,25 @@ module _ {S D O : Type 0} (source : SourceOf S) (disk : DiskOf D) (out : SinkOf 
 
   -- the same, where an image has at most `mend` fillers
   module _ (mend : ℕ) (most : mend_of before ≡ mend) where
-    pub read_all : (leeway : Leeway) (sums : ReceiveCounts)
-        → TakesAll (course_of source (ShelverTook (outlets_of disk out)) input limit leeway) sums.totals
+    pub read_all : (workers : ℕ) (sums : ReceiveCounts)
+        → TakesAll (course_of source (ShelverTook (outlets_of disk out)) input limit (leeway_for input workers)) sums.totals
         (lent s before) (lent s' now)
         → sums.counts ≡ now.counts
-        → ReadsAll (world_of source disk out) (reception mend input limit leeway) sums
+        → ReadsAll (world_of source disk out) (receive_query mend input workers limit) sums
         (shelf_in before.shelf.now (outside s before.disk.now before.out.now))
         (shelf_in now.shelf.now (outside s' now.disk.now now.out.now))
-    read_all leeway sums all same =
-        subst (λ (n : ℕ). ReadsAll (world_of source disk out) (reception n input limit leeway) sums
+    read_all workers sums all same =
+        subst (λ (n : ℕ). ReadsAll (world_of source disk out) (receive_query n input workers limit) sums
         (shelf_in before.shelf.now (outside s before.disk.now before.out.now))
-        (shelf_in now.shelf.now (outside s' now.disk.now now.out.now))) most (received_all leeway sums all same)
+        (shelf_in now.shelf.now (outside s' now.disk.now now.out.now))) most (received_all workers sums all same)
 
-    pub read_some : (leeway : Leeway) (cause : Cause)
-        → TakesSome (course_of source (ShelverTook (outlets_of disk out)) input limit leeway)
+    pub read_some : (workers : ℕ) (cause : Cause)
+        → TakesSome (course_of source (ShelverTook (outlets_of disk out)) input limit (leeway_for input workers))
         (ShelverStopped (outlets_of disk out)) cause
         (lent s before) (lent s' now)
-        → ReadsSome (world_of source disk out) (reception mend input limit leeway) cause
+        → ReadsSome (world_of source disk out) (receive_query mend input workers limit) cause
         (shelf_in before.shelf.now (outside s before.disk.now before.out.now)) (outside s' now.disk.now now.out.now)
-    read_some leeway cause some =
-        subst (λ (n : ℕ). ReadsSome (world_of source disk out) (reception n input limit leeway) cause
+    read_some workers cause some =
+        subst (λ (n : ℕ). ReadsSome (world_of source disk out) (receive_query n input workers limit) cause
         (shelf_in before.shelf.now (outside s before.disk.now before.out.now)) (outside s' now.disk.now now.out.now))
-        most (received_some leeway cause some)
+        most (received_some workers cause some)

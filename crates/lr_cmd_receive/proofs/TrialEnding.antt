@@ -95,7 +95,7 @@ module _ {D O : Type 0} (disk : DiskOf D) (out : SinkOf O) (symbols : List ℕ) 
         by_disk = inits.calls.tell;
         by_out = tells_still;
       };
-      first = first_refused e result 0 0 (disk.faults d) (disk.faults d1) (out.faults o) is
+      counted = first_refused e result 0 0 (disk.faults d) (disk.faults d1) (out.faults o) is
           (λ failed. subst (λ (x : ShelfError). IsInitRefusal disk d d1 x) failed refusal) inits.calls.counted;
     }
 
@@ -170,7 +170,7 @@ module _ {D O : Type 0} (disk : DiskOf D) (out : SinkOf O) (symbols : List ℕ) 
           by_disk = tells_both inits.calls.tell fills.on_disk.tell;
           by_out = fills.by_out;
         };
-        first = filled_first;
+        counted = filled_first;
       }
 
     -- ---- memory was refused
@@ -272,7 +272,7 @@ module _ {D O : Type 0} (disk : DiskOf D) (out : SinkOf O) (symbols : List ℕ) 
           };
           by_out = fills.by_out;
         };
-        first = first_after cause (disk.faults d) (disk.faults d2) (disk.faults d') (out.faults o)
+        counted = first_after cause (disk.faults d) (disk.faults d2) (disk.faults d') (out.faults o)
             (out.faults o2) early
             (fills.first.others Disk (λ is. cc (is)) (λ b. b) ∙ same_count)
             (fills.first.others Output (λ is. cc (is)) (λ b. b)) first;

@@ -1,6 +1,6 @@
 -- What `trial` leaves of the disk once its shelf is made, at each exit.
 use Rattle.std.proofs.Common.{◌≡◌, ◌⊎◌, inl, inr, ℕ, ◌<◌, ◌≤◌, false, List, [], ◌∷◌, ◌++◌, length}
-use Rattle.std.proofs.Common.{map, refl, sym, ◌∙◌, ap, subst, arith, append_assoc, append-nil}
+use Rattle.std.proofs.Common.{refl, sym, ◌∙◌, ap, subst, arith, append_assoc, append-nil}
 use Rattle.std.proofs.Common.{length-append, Result, Ok, Err, IfOk, IfErr, OnOk}
 use Rattle.lr_bits.specs.Faults.{Rose}
 use Rattle.lr_bits.specs.declared.placed.Placed.{Placed}
@@ -8,10 +8,8 @@ use Rattle.lr_bits.proofs.Telling.{tells_both}
 use Rattle.lr_io.specs.declared.source.Source.{Ghosts as SourceOf}
 use Rattle.lr_io.specs.declared.sink.Sink.{Ghosts as SinkOf}
 use Rattle.lr_disk.specs.declared.disk.Disk.{Ghosts as DiskOf}
-use Rattle.lr_shelf_format.specs.Items.{Item}
 use Rattle.lr_shelf_format.specs.ShelfBytes.{StandsForShelf, end_of}
 use Rattle.lr_shelf_format.specs.Way.{Way, way_of}
-use Rattle.lr_shelf.specs.Append.{item_for}
 use Rattle.lr_shelf.specs.Load.{Loads, IsLoadRefusal}
 use Rattle.lr_shelf.specs.Kept.{kept_by}
 use Rattle.lr_shelf.specs.Shelf.{IsDurable, IsSettled}
@@ -28,7 +26,6 @@ use Rattle.lr_causes.specs.declared.cause.Cause.{Cause}
 use Rattle.lr_causes.specs.declared.cause.Cause.TheVariants.{Done, Failed, NoMemory, Refused}
 use Rattle.lr_causes.specs.declared.cause.Party.TheVariants.{Disk, Output}
 use Rattle.lr_causes.specs.declared.cause.Refusal.TheVariants.{NotAShelf, Capacity}
-use Rattle.lr_reading.specs.Readers.{Leeway}
 use Rattle.lr_cmd_receive.specs.declared.receive_counts.ReceiveCounts.{ReceiveCounts}
 use Rattle.lr_conv.specs.declared.line.TheConstants.{STANDARD}
 use Rattle.lr_forms.specs.declared.forms.Input.TheVariants.{Symbols}
@@ -37,21 +34,23 @@ use Rattle.lr_refusals.specs.Errors.{cause_of}
 use Rattle.lr_cmd_receive.specs.Inputs.{files_of_bytes}
 use Rattle.lr_cmd_receive.specs.Noted.{placed_files}
 use Rattle.lr_cmd_receive.proofs.Noted.{placed-append, placed_split}
-use Rattle.lr_reading.specs.Reading.{IsRead, EndsFor, within}
-use Rattle.lr_cmd_receive.specs.Receive.{receive_last}
-use Rattle.lr_cmd_receive.specs.Reception.{sums_line, ReadsAll, ReadsSome, reception}
-use Rattle.lr_shelf.specs.InitialShelves.{OfItems, HoldsStill, with_files, StandsForPrefix, LeavesPrefixes}
-use Rattle.lr_cmd_receive.specs.Shelving.{StopsBy, files_onto}
+use Rattle.lr_reading.specs.Reading.{IsRead, EndsFor}
+use Rattle.lr_cmd_receive.specs.Receive.{receive_last, receive_query}
+use Rattle.lr_cmd_receive.specs.Reception.{sums_line, ReadsAll, ReadsSome}
+use Rattle.lr_shelf.specs.InitialShelves.{HoldsStill, InitialShelf, IsSettledOn, LeavesPrefixes, StandsForPrefix}
+use Rattle.lr_shelf.specs.InitialShelves.{shelf_before, with_files}
+use Rattle.lr_shelf.specs.Prefixes.{end_with}
+use Rattle.lr_cmd_receive.specs.Shelving.{StopsBy}
 use Rattle.lr_cmd_receive.specs.Shelved.{MayStop, StopsTrial, ShelvesSoFar, shelf_in}
 use Rattle.lr_cmd_receive.specs.Trial.{trial_capacity, GotFiles, StandsForPart, HoldsTrialPart, trial_files}
 use Rattle.lr_cmd_receive.specs.Filling.{FillEnds, FillsDisk, StopsFilling}
 use Rattle.lr_cmd_receive.proofs.Causing.{first_later, first_refused, none_rose}
 use Rattle.lr_causes.specs.Counts.{CountsTell}
 use Rattle.lr_cmd_receive.specs.First.{SourceBesides}
-use Rattle.lr_cmd_receive.proofs.Headline.{end_of-append}
 use Rattle.lr_cmd_receive.proofs.ReceiveEnding.{last_line_is, loaded}
-use Rattle.lr_shelf.proofs.InitialPrefixes.{front_more}
-use Rattle.lr_shelf.proofs.InitialShelves.{of_items, with_files-append}
+use Rattle.lr_shelf.proofs.InitialPrefixes.{still_left}
+use Rattle.lr_shelf.proofs.OnShelves.{files_come_onto_shelves, settled_before, way_of_items}
+use Rattle.lr_shelf.proofs.Prefixes.{end_with-append, way_end}
 use Rattle.lr_cmd_receive.specs.Onto.{ChangesFor, ChangesImagesFor}
 use Rattle.lr_cmd_receive.proofs.Changing.{both_of, change_among, change_for, no_change}
 use Rattle.lr_cmd_receive.proofs.ShelvingOne.{same_of}
@@ -66,13 +65,22 @@ stops_trial NoMemory s s' d d' may caused = tt
 stops_trial (Refused (Capacity needed most)) s s' d d' may caused = tt
 stops_trial _ s s' d d' may caused = absurd may
 
--- a prefix of the first ones of the files
+-- a prefix of the first ones of the files, on a shelf that was empty
 stands_for_part : (symbols : List ℕ) (files later : List Placed)
-    → trial_files symbols ≡ files ++ later → (n : ℕ) (bytes : List ℕ)
-    → StandsForPrefix (OfItems trial_capacity []) files n bytes → StandsForPart symbols n bytes
-stands_for_part symbols files later split n bytes stands =
-    subst (λ (l : List Placed). StandsForPrefix (OfItems trial_capacity []) l n bytes) (sym split)
-    (front_more (OfItems trial_capacity []) files later n bytes stands)
+    → trial_files symbols ≡ files ++ later → (n : ℕ) (old bytes : List ℕ) → StandsForShelf old trial_capacity []
+    → StandsForPrefix (shelf_before trial_capacity [] old) files n bytes → StandsForPart symbols n bytes
+stands_for_part symbols files later split n old bytes stood stands = record {
+  first = stands.first;
+  rest = stands.rest ++ later;
+  split = split ∙ ap (λ (l : List Placed). l ++ later) stands.split ∙ append_assoc stands.first stands.rest later;
+  enough = stands.enough;
+  stands = files_come_onto_shelves.some trial_capacity [] old bytes stands.first stood stands.stands;
+}
+
+-- where such a shelf ends
+ends_alike : (files : List Placed) → end_of (with_files [] files) ≡ end_with (end_of []) files
+ends_alike files = sym (ap (λ (w : Way). w.end) (way_of_items trial_capacity files []))
+    ∙ way_end files (way_of trial_capacity [])
 
 -- an empty shelf
 none_of : (symbols bytes : List ℕ) → StandsForShelf bytes trial_capacity [] → StandsForPart symbols 0 bytes
@@ -86,6 +94,10 @@ none_of symbols bytes stands = record {
 
 module _ {D : Type 0} (disk : DiskOf D) (symbols : List ℕ) (d1 : D)
     (empty : disk.tells d1 → IsDurable disk trial_capacity [] d1) where
+  -- the empty shelf that was there
+  abbrev start : InitialShelf
+  start = shelf_before trial_capacity [] (disk.contents d1)
+
   -- ---- the empty shelf was loaded, or not
   module _ (d2 : D) (result2 : Result Shelf ShelfError) (loads : Loads disk d1 d2 result2) where
     empty_moments : disk.tells d1
@@ -154,14 +166,18 @@ module _ {D : Type 0} (disk : DiskOf D) (symbols : List ℕ) (d1 : D)
       same_count = same_of disk d1 d2 result2 shelf is2 loads.calls.counted
 
       begun : disk.tells d1
-          → ShelvesSoFar (outlets_of disk out) (OfItems trial_capacity []) [] (outlets d1 o)
+          → ShelvesSoFar (outlets_of disk out) start [] (outlets d1 o)
           (shelf_in shelf (outlets d2 o))
       begun told =
           let settled = subst (λ (r : Result Shelf ShelfError). IfOk r
           (λ x. IsSettled disk trial_capacity [] x d2)) is2
           (loads.settled trial_capacity [] told (empty told).stands) in
-          loaded (outlets_of disk out) (OfItems trial_capacity []) (outlets d1 o) d2 shelf
-          (of_items disk [] shelf d2 trial_capacity [] settled) (empty_moments told) same_count
+          let read = loads.only_read.unwritten told in
+          let stands = files_come_onto_shelves.none trial_capacity [] (disk.contents d1) (empty told).stands in
+          loaded (outlets_of disk out) start (outlets d1 o) d2 shelf
+          (subst (λ (l : List ℕ). IsSettledOn (shelf_before trial_capacity [] l) [] disk shelf d2) read.contents
+          (settled_before disk trial_capacity [] shelf d2 settled))
+          (still_left disk start d1 d2 read stands (empty told).durable) same_count
 
       -- what was read is the first of the symbols
       split_of : (bytes : List ℕ) → IsRead source limit bytes s s' → symbols ≡ bytes ++ source.left s'
@@ -172,10 +188,11 @@ module _ {D : Type 0} (disk : DiskOf D) (symbols : List ℕ) (d1 : D)
       way_is told = (begun told).settled.kept.way
 
       module _ (files later : List Placed) (split : trial_files symbols ≡ files ++ later) where
-        holds_front : (done rest : List Placed) → files ≡ done ++ rest
-            → HoldsStill (OfItems trial_capacity []) done disk d' → HoldsTrialPart disk symbols 0 d'
-        holds_front done rest is durable = record {
-          contents = stands_for_part symbols files later split 0 (disk.contents d') (record {
+        holds_front : disk.tells d1 → (done rest : List Placed) → files ≡ done ++ rest
+            → HoldsStill start done disk d' → HoldsTrialPart disk symbols 0 d'
+        holds_front told done rest is durable = record {
+          contents = stands_for_part symbols files later split 0 (disk.contents d1) (disk.contents d')
+          (empty told).stands (record {
             first = done;
             rest = rest;
             split = is;
@@ -186,12 +203,12 @@ module _ {D : Type 0} (disk : DiskOf D) (symbols : List ℕ) (d1 : D)
         }
 
         -- whatever bytes these are
-        got_so : (told : disk.tells d1) (c : List ℕ) → StandsForPrefix (OfItems trial_capacity []) files 0 c
+        got_so : (told : disk.tells d1) (c : List ℕ) → StandsForPrefix start files 0 c
             → ChangesFor (way_of trial_capacity []) files (disk.contents d1) c → GotFiles symbols (disk.contents d1) c
         got_so told c stands changes =
             let way = way_of trial_capacity [] in
             record {
-              stands = stands_for_part symbols files later split 0 c stands;
+              stands = stands_for_part symbols files later split 0 (disk.contents d1) c (empty told).stands stands;
               changes = subst (λ (l : List Placed). ChangesFor way l (disk.contents d1) c) (sym split)
                   (change_among way files later (disk.contents d1) c changes);
             }
@@ -214,7 +231,7 @@ module _ {D : Type 0} (disk : DiskOf D) (symbols : List ℕ) (d1 : D)
             joined disk.moment disk.left_since d1 d2 d' _ (empty_images files told)
             (weaker disk.moment disk.left_since d2 d' _ _ (from_loaded told) run)
 
-        got_moments : (told : disk.tells d1) → LeavesPrefixes disk (OfItems trial_capacity []) files d1 d'
+        got_moments : (told : disk.tells d1) → LeavesPrefixes disk start files d1 d'
             → (d' ≡ d2) ⊎ ChangesImagesFor disk (kept_by shelf).way files d2 d'
             → EachImageSince disk d1 d' (GotFiles symbols (disk.contents d1))
         got_moments told leaves images =
@@ -226,7 +243,7 @@ module _ {D : Type 0} (disk : DiskOf D) (symbols : List ℕ) (d1 : D)
         only_loaded told = (loads.durable trial_capacity [] told (empty told)).durable
 
         got_front : (told : disk.tells d1)
-            → StandsForPrefix (OfItems trial_capacity []) files 0 (disk.contents d')
+            → StandsForPrefix start files 0 (disk.contents d')
             → ChangesFor (kept_by shelf).way files (disk.contents d2) (disk.contents d')
             → GotFiles symbols (disk.contents d1) (disk.contents d')
         got_front told stands changes =
@@ -235,8 +252,8 @@ module _ {D : Type 0} (disk : DiskOf D) (symbols : List ℕ) (d1 : D)
       -- shelving stopped
       module _ (calm : Rose (source.faults s) (source.faults s') → ⊥)
           (fit : end_of (with_files [] (trial_files symbols)) ≤ trial_capacity)
-          (leeway : Leeway) (cause : Cause)
-          (some : ReadsSome (world_of source disk out) (reception 0 (Symbols STANDARD) limit leeway) cause
+          (workers : ℕ) (cause : Cause)
+          (some : ReadsSome (world_of source disk out) (receive_query 0 (Symbols STANDARD) workers limit) cause
           (shelf_in shelf (outside s d2 o)) (outside s' d' o')) where
         split : symbols ≡ some.bytes ++ source.left s'
         split = split_of some.bytes some.read
@@ -251,32 +268,34 @@ module _ {D : Type 0} (disk : DiskOf D) (symbols : List ℕ) (d1 : D)
 
         -- and all of them fit
         all_fit : (done rest : List Placed) (next : Placed) → placed_files some.files ≡ done ++ next ∷ rest
-            → trial_capacity < end_of (with_files [] (done ++ next ∷ [])) → ⊥
+            → trial_capacity < end_with (end_of []) (done ++ next ∷ []) → ⊥
         all_fit done rest next is over =
             let first = come_first in
             let all : trial_files symbols ≡ (done ++ next ∷ []) ++ (rest ++ first.0) =
             first.1 ∙ ap (λ (l : List Placed). l ++ first.0) is
             ∙ append_assoc done (next ∷ rest) first.0 ∙ sym (append_assoc done (next ∷ []) (rest ++ first.0)) in
-            let whole : with_files [] (trial_files symbols)
-            ≡ with_files [] (done ++ next ∷ []) ++ map item_for (rest ++ first.0) =
-            ap (with_files []) all ∙ with_files-append [] (done ++ next ∷ []) (rest ++ first.0) in
-            let le = subst (λ (l : List Item). end_of (with_files [] (done ++ next ∷ [])) ≤ end_of l) (sym whole)
-            (end_of-append (with_files [] (done ++ next ∷ [])) (map item_for (rest ++ first.0))) in
-            omega (arith, le, over, fit)
+            omega (
+              arith,
+              over,
+              fit,
+              ends_alike (trial_files symbols),
+              ap (end_with (end_of [])) all,
+              end_with-append (end_of []) (done ++ next ∷ []) (rest ++ first.0),
+            )
 
         stopped_ends : (c : Cause) → (disk.tells d1
-            → StopsBy (outlets_of disk out) (files_onto (OfItems trial_capacity []) some.files) c (outlets d1 o)
+            → StopsBy (outlets_of disk out) start some.files c (outlets d1 o)
             (outlets d' o')) → StopsTrial c
             → FillEnds disk symbols c d1 d'
         stopped_ends (Failed Disk) why kind = tt
         stopped_ends NoMemory why kind = λ told.
-            let w = why told in holds_front (placed_files some.files) come_first.0 come_first.1 (placed_files w.done)
+            let w = why told in holds_front (placed_files some.files) come_first.0 come_first.1 told (placed_files w.done)
             (placed_files w.rest) (placed_split w.done w.rest w.split) w.durable
         stopped_ends (Refused (NotAShelf at)) why kind = λ told. absurd (why told)
         stopped_ends (Refused (Capacity needed most)) why kind = λ told.
             let w = why told in absurd (all_fit (placed_files w.done) (placed_files w.rest) w.next.placed
             (placed_split w.done (w.next ∷ w.rest) w.split)
-            (subst (λ (l : List Placed). trial_capacity < end_of (with_files [] l)) (placed-append w.done (w.next ∷ []))
+            (subst (λ (l : List Placed). trial_capacity < end_with (end_of []) l) (placed-append w.done (w.next ∷ []))
             w.over))
         stopped_ends _ why kind = absurd kind
 
@@ -300,14 +319,14 @@ module _ {D : Type 0} (disk : DiskOf D) (symbols : List ℕ) (d1 : D)
             fills = record {
               tell = tells_both loads.calls.tell some.stopped.tell.by_disk;
               ends = stopped_ends cause
-                  (λ told. (some.early.stops (OfItems trial_capacity []) [] (outlets d1 o) (begun told)).why) kind;
+                  (λ told. (some.early.stops start [] (outlets d1 o) (begun told)).why) kind;
               got = λ told.
                   got_front (placed_files some.files) come_first.0 come_first.1 told
-                  (some.early.keeps (OfItems trial_capacity []) [] (outlets d1 o) (begun told)).held.contents
+                  (some.early.keeps start [] (outlets d1 o) (begun told)).held.contents
                   (some.early.outside (loads.calls.tell.told told));
               any_moment = λ told.
                   got_moments (placed_files some.files) come_first.0 come_first.1 told
-                  (some.early.stops (OfItems trial_capacity []) [] (outlets d1 o) (begun told)).any_moment
+                  (some.early.stops start [] (outlets d1 o) (begun told)).any_moment
                   (some.early.moments (loads.calls.tell.told told)
                   (only_loaded (placed_files some.files) come_first.0 come_first.1 told));
             };
@@ -315,8 +334,8 @@ module _ {D : Type 0} (disk : DiskOf D) (symbols : List ℕ) (d1 : D)
           }
 
       -- all of them are shelved
-      module _ (leeway : Leeway) (sums : ReceiveCounts) (shelf' : Shelf)
-          (all : ReadsAll (world_of source disk out) (reception 0 (Symbols STANDARD) limit leeway) sums
+      module _ (workers : ℕ) (sums : ReceiveCounts) (shelf' : Shelf)
+          (all : ReadsAll (world_of source disk out) (receive_query 0 (Symbols STANDARD) workers limit) sums
           (shelf_in shelf (outside s d2 o)) (shelf_in shelf' (outside s' d' o')))
           (calm : Rose (source.faults s) (source.faults s') → ⊥) where
         split_all : symbols ≡ all.bytes ++ source.left s'
@@ -325,7 +344,7 @@ module _ {D : Type 0} (disk : DiskOf D) (symbols : List ℕ) (d1 : D)
         no_longer : length all.bytes ≤ length symbols
         no_longer = omega (arith, ap length split_all, length-append all.bytes (source.left s'))
 
-        at_end : (stop : Stop) → EndsFor source stop (within limit all.bytes) s s' → (stop ≡ End)
+        at_end : (stop : Stop) → EndsFor source stop limit all.bytes s s' → (stop ≡ End)
             × (all.bytes ≡ symbols)
         at_end End why = (refl, sym (split_all ∙ ap (λ l. all.bytes ++ l) (why.1 given) ∙ append-nil all.bytes))
         at_end Limit why = absurd (omega (arith, why.0, no_longer, few))
@@ -340,14 +359,18 @@ module _ {D : Type 0} (disk : DiskOf D) (symbols : List ℕ) (d1 : D)
             ∙ ap (λ bytes. receive_last 0 (Symbols STANDARD) bytes End) ended_so.1
 
         so_far : disk.tells d1
-            → ShelvesSoFar (outlets_of disk out) (OfItems trial_capacity [])
+            → ShelvesSoFar (outlets_of disk out) start
             (files_of_bytes 0 (Symbols STANDARD) all.bytes) (outlets d1 o) (shelf_in shelf' (outlets d' o'))
-        so_far told = all.shelved.shelved (OfItems trial_capacity []) [] (outlets d1 o) (begun told)
+        so_far told = all.shelved.shelved start [] (outlets d1 o) (begun told)
 
         durable : disk.tells d1
             → IsDurable disk trial_capacity (with_files [] (trial_files all.bytes)) d'
         durable told =
-            let still = (so_far told).settled.on_disk in record { stands = still.stands; durable = still.durable }
+            let still = (so_far told).settled.on_disk in record {
+              stands = files_come_onto_shelves.some trial_capacity [] (disk.contents d1) (disk.contents d')
+                  (trial_files all.bytes) (empty told).stands still.stands;
+              durable = still.durable;
+            }
 
         abbrev all_files : List Placed
         all_files = trial_files all.bytes
@@ -380,10 +403,10 @@ module _ {D : Type 0} (disk : DiskOf D) (symbols : List ℕ) (d1 : D)
         }
 
       -- ---- for either answer
-      pub stream_ends : (leeway : Leeway) (shelf' : Shelf) (answer : Result ReceiveCounts Cause)
-          → IfOk answer (λ sums. ReadsAll (world_of source disk out) (reception 0 (Symbols STANDARD) limit leeway) sums
+      pub stream_ends : (workers : ℕ) (shelf' : Shelf) (answer : Result ReceiveCounts Cause)
+          → IfOk answer (λ sums. ReadsAll (world_of source disk out) (receive_query 0 (Symbols STANDARD) workers limit) sums
           (shelf_in shelf (outside s d2 o)) (shelf_in shelf' (outside s' d' o')))
-          → IfErr answer (λ cause. ReadsSome (world_of source disk out) (reception 0 (Symbols STANDARD) limit leeway)
+          → IfErr answer (λ cause. ReadsSome (world_of source disk out) (receive_query 0 (Symbols STANDARD) workers limit)
           cause (shelf_in shelf (outside s d2 o)) (outside s' d' o'))
           → (Rose (source.faults s) (source.faults s') → ⊥)
           → end_of (with_files [] (trial_files symbols)) ≤ trial_capacity
@@ -391,11 +414,11 @@ module _ {D : Type 0} (disk : DiskOf D) (symbols : List ℕ) (d1 : D)
           → IfOk answer (λ sums. sums_line sums ≡ receive_last 0 (Symbols STANDARD) symbols End)
           × OnOk answer (FillsDisk disk symbols Done d1 d')
           × IfErr answer (λ cause. StopsFilling disk symbols cause d1 d')
-      stream_ends leeway shelf' (Ok sums) all some calm fit sure =
-          (line leeway sums shelf' all calm, finished leeway sums shelf' all calm, tt)
-      stream_ends leeway shelf' (Err cause) all some calm fit sure = (
+      stream_ends workers shelf' (Ok sums) all some calm fit sure =
+          (line workers sums shelf' all calm, finished workers sums shelf' all calm, tt)
+      stream_ends workers shelf' (Err cause) all some calm fit sure = (
         tt,
         tt,
-        stopped calm fit leeway cause some sure
+        stopped calm fit workers cause some sure
             (subst (λ (r : Result Shelf ShelfError). IfOk r (λ x. (kept_by x).failed ≡ false)) is2 loads.working),
       )

@@ -6,53 +6,49 @@ use Rattle.lr_bits.proofs.Telling.{tells_both, tells_still}
 use Rattle.lr_disk.specs.Reads.{IsOnlyRead}
 use Rattle.lr_disk.specs.Pending.{EachImageSince, NothingPending}
 use Rattle.lr_disk.proofs.Moments.{joined, weaker, stays}
-use Rattle.lr_shelf_format.specs.Items.{Item}
-use Rattle.lr_shelf_format.specs.ShelfBytes.{StandsForShelf}
 use Rattle.lr_shelf_format.specs.Way.{IsWay, IsNoShelfAt, Way}
-use Rattle.lr_shelf_format.proofs.WayLemmas.{has_one_way, has_way}
+use Rattle.lr_shelf_format.proofs.WayLemmas.{has_one_way}
 use Rattle.lr_shelf.specs.Kept.{kept_by}
 use Rattle.lr_shelf.specs.Load.{Loads, IsLoadRefusal, MayRefuseAt}
-use Rattle.lr_shelf.specs.Shelf.{IsDurable, IsSettled, KeepsWay}
+use Rattle.lr_shelf.specs.Shelf.{KeepsWay}
 use Rattle.lr_shelf.specs.declared.shelf.Shelf.{Shelf}
 use Rattle.lr_shelf.specs.declared.error.ShelfError.{ShelfError}
 use Rattle.lr_shelf.specs.declared.error.ShelfError.TheVariants.{Disk as Disk'}
 use Rattle.lr_shelf.specs.declared.error.ShelfError.TheVariants.{NotAShelf as NotAShelf'}
 use Rattle.lr_shelf.specs.declared.error.ShelfError.TheVariants.{NoMemory as NoMemory'}
 use Rattle.lr_causes.specs.declared.cause.Cause.{Cause}
-use Rattle.lr_causes.specs.declared.cause.Cause.TheVariants.{Done, Failed, NoMemory, Refused}
-use Rattle.lr_causes.specs.declared.cause.Party.TheVariants.{Source, Disk}
+use Rattle.lr_causes.specs.declared.cause.Cause.TheVariants.{Failed, NoMemory, Refused}
+use Rattle.lr_causes.specs.declared.cause.Party.TheVariants.{Disk}
 use Rattle.lr_causes.specs.declared.cause.Refusal.TheVariants.{NotAShelf}
 use Rattle.lr_refusals.specs.Errors.{cause_of}
 use Rattle.lr_causes.specs.Outside.{counts_in, outlets, outside, outlets_in, world_outlets, World, Outside}
-use Rattle.lr_reading.specs.Readers.{leeway_for}
 use Rattle.lr_cmd_receive.proofs.Causing.{first_later, first_refused}
 use Rattle.lr_cmd_receive.proofs.Changing.{no_change}
-use Rattle.lr_forms.specs.declared.forms.Input.{Input}
 use Rattle.lr_causes.specs.Counts.{CountsTell}
 use Rattle.lr_cmd_receive.specs.First.{SourceBesides}
 use Rattle.lr_cmd_receive.specs.Inputs.{files_of_bytes}
 use Rattle.lr_cmd_receive.specs.Noted.{NotedFile, placed_files}
-use Rattle.lr_shelf.specs.InitialShelves.{InitialShelf, OfItems, OfWay, HoldsStill, IsSettledOn, StandsWith}
-use Rattle.lr_shelf.specs.InitialShelves.{LeavesPrefixes}
-use Rattle.lr_cmd_receive.specs.Onto.{ChangesFor, ChangesImagesFor}
-use Rattle.lr_cmd_receive.specs.Shelved.{ShelvesSoFar, shelf_in}
-use Rattle.lr_cmd_receive.specs.Receive.{Ends, Receives, IsWorkDone, EndsWork, IsUntouched, StopsEarly}
-use Rattle.lr_cmd_receive.specs.Receive.{PutsNoFileOff, ReceiveRun, intake, run_onto, taken_by, receive_query}
-use Rattle.lr_cmd_receive.specs.Reception.{EndsRun, reception}
+use Rattle.lr_shelf.specs.InitialShelves.{InitialShelf, HoldsStill, IsSettledOn, StandsWith}
+use Rattle.lr_shelf.specs.InitialShelves.{LeavesPrefixes, initial_shelf}
+use Rattle.lr_cmd_receive.specs.Onto.{ChangesFor, ChangesImagesFor, IsFullWith}
+use Rattle.lr_cmd_receive.specs.Shelved.{MayStop, ShelvesSoFar, shelf_in}
+use Rattle.lr_cmd_receive.specs.Receive.{Receives, IsWorkDone, EndsWork, IsUntouched, StopsEarly}
+use Rattle.lr_cmd_receive.specs.Receive.{PutsNoFileOff, ReceiveQuery, ReceiveRun}
+use Rattle.lr_cmd_receive.specs.Reception.{EndsRun, run_of}
+use Rattle.lr_cmd_receive.specs.Shelving.{StopsBy}
 use Rattle.lr_cmd_receive.proofs.Headline.{receives}
-use Rattle.lr_cmd_receive.proofs.ReceiveEnding.{got_none, loaded}
+use Rattle.lr_cmd_receive.proofs.ReceiveEnding.{got_none, loaded, no_work}
 use Rattle.lr_cmd_receive.proofs.ShelvingOne.{same_of}
 use Rattle.lr_cmd_receive.proofs.Taking.{no_bytes}
 use Rattle.lr_cmd_receive.proofs.Timely.{none_put_off}
-use Rattle.lr_shelf.proofs.InitialPrefixes.{front_none, begun_items, begun_way, still_holds}
-use Rattle.lr_shelf.proofs.InitialPrefixes.{still_left, settled_on_items}
+use Rattle.lr_shelf.proofs.InitialPrefixes.{front_none, begun_way, still_holds}
+use Rattle.lr_shelf.proofs.InitialPrefixes.{still_left}
 use Rattle.lr_cmd_receive.proofs.Loading.{ended_before, may_refuse, load_cause, load_room, load_work, run_cause}
-use Rattle.lr_reading.specs.Runs.{input_read}
 use Rattle.lr_cmd_receive.proofs.Loading.{run_kind, full_reads, load_silent, nothing_waits, stopped_at_once}
 
 -- ---- the shelf was to be loaded
 
-module _ {S D O : Type 0} (world : World S D O) (mend : ℕ) (input : Input) (workers limit : ℕ) (w : Outside S D O)
+module _ {S D O : Type 0} (world : World S D O) (asked : ReceiveQuery) (w : Outside S D O)
     (d1 : D)
     (result : Result Shelf ShelfError) (loads : Loads world.disk w.disk d1 result) where
   -- the disk was only read
@@ -77,32 +73,36 @@ module _ {S D O : Type 0} (world : World S D O) (mend : ℕ) (input : Input) (wo
     loading : EachImageSince world.disk w.disk d1 (StandsWith initial [])
     loading = still_left world.disk initial w.disk d1 (loads.only_read.unwritten told) stands only
 
-    none : (cause : Cause) → Ends world (run_onto initial (intake mend (input_read input limit []))) cause w read_only
+    none : (cause : Cause) → MayStop cause
+        → StopsBy (world_outlets world) initial (files_of_bytes asked.mend asked.input []) cause (outlets_in w)
+        (outlets_in read_only)
         → CountsTell SourceBesides cause (counts_in world w) (counts_in world read_only)
-        → Receives world (run_onto initial (intake mend (input_read input limit []))) cause w read_only
-    none cause ends first =
-        receives world mend input initial limit [] w read_only cause
+        → Receives world (run_of asked initial []) cause w read_only
+    none cause may stops first =
+        receives world asked initial [] w read_only cause
         (subst (λ (l : List NotedFile). LeavesPrefixes world.disk initial (placed_files l) w.disk d1)
-        (sym (no_bytes mend input))
+        (sym (no_bytes asked.mend asked.input))
         (weaker world.disk.moment world.disk.left_since w.disk d1 _ _ (front_none initial) loading))
-        ends first
+        (inl may)
+        (record { stands = λ done. absurd (no_work cause may done); stops = λ undone. inl stops })
+        first
 
     nothing : (e : ShelfError) → result ≡ Err e → IsLoadRefusal world.disk w.disk e
         → ((at : ℕ) → IsNoShelfAt (world.disk.contents w.disk) at → ⊥)
-        → Receives world (run_onto initial (intake mend (input_read input limit []))) (cause_of e) w read_only
-    nothing Disk' is refusal shelf = none (Failed Disk) (record {
+        → Receives world (run_of asked initial []) (cause_of e) w read_only
+    nothing Disk' is refusal shelf = none (Failed Disk) tt (record {
       done = [];
       rest = [];
-      split = no_bytes mend input;
+      split = no_bytes asked.mend asked.input;
       contents = inl still.stands;
       images = λ c image. inl (subst (StandsWith initial []) (sym (still.durable c image)) still.stands);
       got = got_none world.out initial w.out;
     }) (first_of Disk' is refusal)
     nothing (NotAShelf' at) is refusal shelf = absurd (shelf at (refusal told))
-    nothing NoMemory' is refusal shelf = none NoMemory (record {
+    nothing NoMemory' is refusal shelf = none NoMemory tt (record {
       done = [];
       rest = [];
-      split = no_bytes mend input;
+      split = no_bytes asked.mend asked.input;
       durable = still;
       got = got_none world.out initial w.out;
     }) (first_of NoMemory' is refusal)
@@ -130,10 +130,10 @@ module _ {S D O : Type 0} (world : World S D O) (mend : ℕ) (input : Input) (wo
 
   -- it wasn't
   pub not_loaded : (e : ShelfError) → result ≡ Err e → IsLoadRefusal world.disk w.disk e
-      → ReceiveRun world (receive_query mend input workers limit) (cause_of e) w read_only
+      → ReceiveRun world asked (cause_of e) w read_only
   not_loaded e is refusal = record {
     causes = load_cause world.disk w.disk e refusal;
-    first = first_of e is refusal;
+    counted = first_of e is refusal;
     bytes = [];
     read = record { tell = tells_still; moved = λ t. refl; few = omega arith; asked = inl (refl, refl) };
     tell = record {
@@ -141,35 +141,26 @@ module _ {S D O : Type 0} (world : World S D O) (mend : ℕ) (input : Input) (wo
       by_out = tells_still;
     };
     onto = record {
-      shelf = λ capacity items told durable.
-          nothing (OfItems capacity items) told
-          (begun_items capacity items (world.disk.contents w.disk) durable.stands)
-          durable.durable e is refusal
-          (λ at no. (has_one_way (world.disk.contents w.disk)).none _ at
-          (has_way (world.disk.contents w.disk) capacity items durable.stands)
-          no);
       way = λ way told way_is only.
-          nothing (OfWay way (world.disk.contents w.disk)) told (begun_way way (world.disk.contents w.disk) way_is)
+          nothing (initial_shelf way (world.disk.contents w.disk)) told
+          (begun_way way (world.disk.contents w.disk) way_is)
           only e is refusal
           (λ at no. (has_one_way (world.disk.contents w.disk)).none way at way_is no);
       keeps_up = λ initial told stands only.
-          none_put_off world mend input workers initial [] w read_only w.disk
-          (nothing_waits world initial mend input (leeway_for input workers) w w d1
+          none_put_off world asked initial [] w read_only w.disk
+          (nothing_waits world initial asked w d1
           (still initial told stands (only refl))) (inl (refl, refl));
     };
-    lines = record {
-      ended = λ done. absurd (load_work world.disk w.disk e refusal done);
-      stopped = λ undone. stopped_at_once world mend input limit (cause_of e) w read_only refl
-          (load_silent world.disk w.disk e refusal);
-    };
+    ended = λ done. absurd (load_work world.disk w.disk e refusal done);
+    stopped = λ undone. stopped_at_once world asked (cause_of e) w read_only refl
+        (load_silent world.disk w.disk e refusal);
     wants = record {
       refused = λ at named. (refused e at refusal named, only_read);
       broken = λ at told no. (ended_before e at (may_refuse at result e is (loads.broken at told no)), only_read);
     };
     capacity = record {
-      full = λ needed most named. absurd (load_room world.disk w.disk e refusal needed most named);
+      full = λ way needed most named. absurd (load_room world.disk w.disk e refusal needed most named);
       nothing_fits = λ needed most named. absurd (load_room world.disk w.disk e refusal needed most named);
-      room = λ done. absurd (load_work world.disk w.disk e refusal done);
     };
     alone = record {
       only_read = λ none. loads.only_read;
@@ -178,11 +169,11 @@ module _ {S D O : Type 0} (world : World S D O) (mend : ℕ) (input : Input) (wo
     };
     writes = record {
       outside = λ way told is.
-          no_change way (placed_files (files_of_bytes mend input [])) (world.disk.contents w.disk)
+          no_change way (placed_files (files_of_bytes asked.mend asked.input [])) (world.disk.contents w.disk)
           (world.disk.contents d1)
           (loads.only_read.unwritten told).contents;
       outside_any_moment = λ way told is only.
-          loading_images way (placed_files (files_of_bytes mend input [])) told only;
+          loading_images way (placed_files (files_of_bytes asked.mend asked.input [])) told only;
     };
   }
 
@@ -190,7 +181,7 @@ module _ {S D O : Type 0} (world : World S D O) (mend : ℕ) (input : Input) (wo
   module _ (only_now : (d : D) (c : List ℕ) → world.disk.tells d → world.disk.left_since d (world.disk.moment d) c
       → world.disk.may_leave d c)
       (shelf : Shelf) (is : result ≡ Ok shelf) (w' : Outside S D O) (cause : Cause)
-      (run : EndsRun world (reception mend input limit (leeway_for input workers)) cause (shelf_in shelf read_only) w')
+      (run : EndsRun world asked cause (shelf_in shelf read_only) w')
     where
       if_ok : (P : Shelf → Type 0) → IfOk result P → P shelf
       if_ok P holds = subst (λ (r : Result Shelf ShelfError). IfOk r P) is holds
@@ -218,67 +209,45 @@ module _ {S D O : Type 0} (world : World S D O) (mend : ℕ) (input : Input) (wo
           → StandsWith initial [] (world.disk.contents w.disk)
           → NothingPending world.disk w.disk
           → IsSettledOn initial [] world.disk shelf d1
-          → Receives world (run_onto initial (intake mend (input_read input limit run.bytes))) cause w w'
+          → Receives world (run_of asked initial run.bytes) cause w w'
       onto initial told stands only settled =
           let begun = loaded (world_outlets world) initial (outlets_in w) d1 shelf settled
           (loading initial told stands only) same_count in
           let all = run.ends initial (outlets_in w) begun in
-          receives world mend input initial limit run.bytes w w' cause all.0 all.1 first_run
-
-      onto_shelf : (capacity : ℕ) (items : List Item) → world.disk.tells w.disk
-          → IsDurable world.disk capacity items w.disk
-          → Receives world (run_onto (OfItems capacity items) (intake mend
-          (input_read input limit run.bytes))) cause w w'
-      onto_shelf capacity items told durable =
-          onto (OfItems capacity items) told (begun_items capacity items (world.disk.contents w.disk) durable.stands)
-          durable.durable
-          (settled_on_items world.disk capacity items shelf d1
-          (if_ok (λ x. IsSettled world.disk capacity items x d1) (loads.settled capacity items told durable.stands)))
+          receives world asked initial run.bytes w w' cause all.0 run.kind all.1 first_run
 
       onto_way : (way : Way) → world.disk.tells w.disk → IsWay (world.disk.contents w.disk) way
           → NothingPending world.disk w.disk
-          → Receives world (run_onto (OfWay way (world.disk.contents w.disk)) (intake mend
-          (input_read input limit run.bytes))) cause
+          → Receives world (run_of asked (initial_shelf way (world.disk.contents w.disk)) run.bytes) cause
           w w'
       onto_way way told way_is only =
           let begins = begun_way way (world.disk.contents w.disk) way_is in
           let same : (kept_by shelf).way ≡ way =
           (has_one_way (world.disk.contents w.disk)).way (kept_by shelf).way way (is_way told) way_is in
-          onto (OfWay way (world.disk.contents w.disk)) told begins only
+          onto (initial_shelf way (world.disk.contents w.disk)) told begins only
           (record {
             told = loads.calls.tell.told told;
             kept = record { way = same; working = working };
-            on_disk = still (OfWay way (world.disk.contents w.disk)) told begins only;
+            on_disk = still (initial_shelf way (world.disk.contents w.disk)) told begins only;
           })
 
       -- also where something was pending on the disk: it was synced first
       settled_after : (initial : InitialShelf) → world.disk.tells w.disk
           → StandsWith initial [] (world.disk.contents w.disk)
           → IsSettledOn initial [] world.disk shelf d1
-      settled_after (OfItems capacity items) told stands =
-          settled_on_items world.disk capacity items shelf d1
-          (if_ok (λ x. IsSettled world.disk capacity items x d1) (loads.settled capacity items told
-          (subst (StandsForShelf (world.disk.contents w.disk) capacity) (append-nil items) stands)))
-      settled_after (OfWay way old) told stands = record {
+      settled_after initial told stands = record {
         told = loads.calls.tell.told told;
         kept = record {
-          way = (has_one_way (world.disk.contents w.disk)).way (kept_by shelf).way way (is_way told) stands.is_way;
+          way = (has_one_way (world.disk.contents w.disk)).way (kept_by shelf).way initial.way (is_way told)
+              stands.is_way;
           working = working;
         };
         on_disk = record {
-          stands = subst (StandsWith (OfWay way old) []) (sym (loads.only_read.unwritten told).contents) stands;
+          stands = subst (StandsWith initial []) (sym (loads.only_read.unwritten told).contents) stands;
           durable = subst (λ (r : Result Shelf ShelfError). OnOk r (NothingPending world.disk d1)) is
               (loads.synced told);
         };
       }
-
-      still_after : (initial : InitialShelf) (c : Cause) (before : Outside S D O) → IsWorkDone c
-          → Ends world (run_onto initial (intake mend (input_read input limit run.bytes))) c before w'
-          → HoldsStill initial (placed_files (files_of_bytes mend input run.bytes)) world.disk w'.disk
-      still_after initial Done before done (inl ends) = ends.durable
-      still_after initial Done before done (inr ends) = ends.durable
-      still_after initial (Failed Source) before done ends = ends.durable
-      still_after initial _ before done ends = absurd done
 
       -- from the disk as it was loaded
       begun_after : (initial : InitialShelf) → world.disk.tells w.disk
@@ -293,10 +262,10 @@ module _ {S D O : Type 0} (world : World S D O) (mend : ℕ) (input : Input) (wo
 
       keeps_up_run : (initial : InitialShelf) → world.disk.tells w.disk
           → StandsWith initial [] (world.disk.contents w.disk)
-          → PutsNoFileOff world (taken_by mend input workers run.bytes) initial w w'
+          → PutsNoFileOff world (run_of asked initial run.bytes) w w'
       keeps_up_run initial told stands =
           let all = run.ends initial (outlets d1 w.out) (begun_after initial told stands) in
-          none_put_off world mend input workers initial run.bytes w w' d1 all.2 all.3
+          none_put_off world asked initial run.bytes w w' d1 all.2 all.3
 
       numbered_run : (way : Way) → world.disk.tells w.disk → IsWay (world.disk.contents w.disk) way
           → length (kept_by shelf).way.entries ≡ length way.entries
@@ -305,7 +274,7 @@ module _ {S D O : Type 0} (world : World S D O) (mend : ℕ) (input : Input) (wo
           ((has_one_way (world.disk.contents w.disk)).way (kept_by shelf).way way (is_way told) has)
 
       stopped_run : (IsWorkDone cause → ⊥)
-          → StopsEarly world (intake mend (input_read input limit run.bytes)) cause w w'
+          → StopsEarly world asked run.bytes cause w w'
       stopped_run undone = record {
         number = length (kept_by shelf).way.entries;
         lines = ⊎_elim (λ lines. inl lines)
@@ -314,25 +283,25 @@ module _ {S D O : Type 0} (world : World S D O) (mend : ℕ) (input : Input) (wo
         numbered = λ way told has some. numbered_run way told has;
       }
 
-      ended_run : IsWorkDone cause → EndsWork world (intake mend (input_read input limit run.bytes)) cause w w'
+      ended_run : IsWorkDone cause → EndsWork world asked run.bytes cause w w'
       ended_run done =
           let there = run.ended done in
           record {
-            stop = there.0;
-            is = there.1;
+            stop = there.stop;
+            is = there.is;
+            reason = there.reason;
             number = length (kept_by shelf).way.entries;
-            work = record { reason = there.2.reason; got = there.2.got };
+            got = there.got;
             numbered = numbered_run;
             stand = λ initial told stands.
-                still_after initial cause (outside w.source d1 w.out) done
-                (run.ends initial (outlets d1 w.out) (begun_after initial told stands)).1;
+                (run.ends initial (outlets d1 w.out) (begun_after initial told stands)).1.stands done;
           }
 
       changes_run : (way : Way) → world.disk.tells w.disk → IsWay (world.disk.contents w.disk) way
-          → ChangesFor way (placed_files (files_of_bytes mend input run.bytes)) (world.disk.contents w.disk)
+          → ChangesFor way (placed_files (files_of_bytes asked.mend asked.input run.bytes)) (world.disk.contents w.disk)
           (world.disk.contents w'.disk)
       changes_run way told has =
-          let files = placed_files (files_of_bytes mend input run.bytes) in
+          let files = placed_files (files_of_bytes asked.mend asked.input run.bytes) in
           subst (λ (x : Way). ChangesFor x files (world.disk.contents w.disk) (world.disk.contents w'.disk))
           ((has_one_way (world.disk.contents w.disk)).way (kept_by shelf).way way (is_way told) has)
           (subst (λ (l : List ℕ). ChangesFor (kept_by shelf).way files l (world.disk.contents w'.disk))
@@ -340,9 +309,9 @@ module _ {S D O : Type 0} (world : World S D O) (mend : ℕ) (input : Input) (wo
 
       images_run : (way : Way) → world.disk.tells w.disk → IsWay (world.disk.contents w.disk) way
           → NothingPending world.disk w.disk
-          → ChangesImagesFor world.disk way (placed_files (files_of_bytes mend input run.bytes)) w.disk w'.disk
+          → ChangesImagesFor world.disk way (placed_files (files_of_bytes asked.mend asked.input run.bytes)) w.disk w'.disk
       images_run way told has only =
-          let files = placed_files (files_of_bytes mend input run.bytes) in
+          let files = placed_files (files_of_bytes asked.mend asked.input run.bytes) in
           let read = loads.only_read.unwritten told in
           let old = world.disk.contents w.disk in
           let loading = loading_images way files told only in
@@ -358,10 +327,10 @@ module _ {S D O : Type 0} (world : World S D O) (mend : ℕ) (input : Input) (wo
           (subst (λ (l : List ℕ). ChangesFor (kept_by shelf).way files l c) read.contents changes)) then))
           (run.moments (loads.calls.tell.told told) (λ c image. only c (read.images c image) ∙ sym read.contents))
 
-      pub loaded_run : ReceiveRun world (receive_query mend input workers limit) cause w w'
+      pub loaded_run : ReceiveRun world asked cause w w'
       loaded_run = record {
         causes = run_cause cause run.kind;
-        first = first_run;
+        counted = first_run;
         bytes = run.bytes;
         read = run.read;
         tell = record {
@@ -369,11 +338,11 @@ module _ {S D O : Type 0} (world : World S D O) (mend : ℕ) (input : Input) (wo
           by_out = run.tell.by_out;
         };
         onto = record {
-          shelf = onto_shelf;
           way = onto_way;
           keeps_up = λ initial told stands only. keeps_up_run initial told stands;
         };
-        lines = record { ended = ended_run; stopped = stopped_run };
+        ended = ended_run;
+        stopped = stopped_run;
         wants = record {
           refused = λ at named. absurd (run_kind cause run.kind at named);
           broken = λ at told no.
@@ -381,19 +350,21 @@ module _ {S D O : Type 0} (world : World S D O) (mend : ℕ) (input : Input) (wo
               (loads.broken at told no));
         };
         capacity = record {
-          full = λ needed most named told.
-              record { way = (kept_by shelf).way; is_way = is_way told; full = run.over.full needed most named };
+          full = λ way needed most named told has.
+              subst (λ (x : Way). IsFullWith x needed most (placed_files (files_of_bytes asked.mend asked.input run.bytes)))
+              ((has_one_way (world.disk.contents w.disk)).way (kept_by shelf).way way (is_way told) has)
+              (run.over.full needed most named);
           nothing_fits = λ needed most named tells empty.
               let full = run.over.full needed most named in
-              full_reads world.source mend input limit run.bytes w.source w'.source run.read tells
+              full_reads world.source asked.mend asked.input asked.limit run.bytes w.source w'.source run.read tells
               empty full.done full.next full.rest full.split;
-          room = λ done told. record { way = (kept_by shelf).way; is_way = is_way told; room = run.over.room done };
         };
         alone = record {
           only_read = λ none.
-              subst (λ (x : D). IsOnlyRead world.disk w.disk x) (sym (run.over.same_disk none)) loads.only_read;
-          silent = run.over.silent;
-          unasked = λ none failed. absurd (run.over.kind none failed);
+              subst (λ (x : D). IsOnlyRead world.disk w.disk x) (sym (run.over.same_disk (ap placed_files none)))
+              loads.only_read;
+          silent = λ none early. run.over.silent (ap placed_files none) early;
+          unasked = λ none failed. absurd (run.over.kind (ap placed_files none) failed);
         };
         writes = record { outside = changes_run; outside_any_moment = images_run };
       }

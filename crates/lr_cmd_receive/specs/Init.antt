@@ -48,7 +48,7 @@ module _ {D O : Type 0} (world : OutletsOf D O) (capacity : ℕ) where
   pub record InitRun (cause : Cause) (w w' : Outlets D O) : Type 0 where
     pub ends : InitEnds cause w w'
     -- the first event decides
-    pub first : CountsTell SourceBesides cause (outlet_counts world w) (outlet_counts world w')
+    pub counted : CountsTell SourceBesides cause (outlet_counts world w) (outlet_counts world w')
     -- a disk that is taken is refused, exactly then, and nothing is written
     pub taken : world.disk.tells w.disk → IsTaken (world.disk.contents w.disk)
         → ((cause ≡ Refused (NotEmpty (length (world.disk.contents w.disk)))) ⊎ IsEarlier cause)

@@ -4,7 +4,7 @@ use Rattle.lr_bits.specs.declared.placed.Placed.{Placed}
 use Rattle.lr_bits.specs.Sizes.{most_u64}
 use Rattle.lr_disk.specs.declared.disk.Disk.{Ghosts as DiskOf}
 use Rattle.lr_disk.specs.Pending.{EachImageSince}
-use Rattle.lr_shelf_format.specs.Way.{Way, IsWay}
+use Rattle.lr_shelf_format.specs.Way.{Way}
 use Rattle.lr_shelf.specs.Adding.{StaysOutside}
 use Rattle.lr_shelf.specs.Prefixes.{HasRoom, end_with}
 
@@ -33,15 +33,3 @@ module _ {D : Type 0} (disk : DiskOf D) where
   -- the same of each image since the moment of d
   abbrev pub ChangesImagesFor : Way → List Placed → D → D → Type 0
   ChangesImagesFor way files d d' = EachImageSince disk d d' (ChangesFor way files (disk.contents d))
-
-  -- on the way that the disk has there is no room for the next file
-  pub record IsFull (needed most : ℕ) (files : List Placed) (d : D) : Type 0 where
-    pub way : Way
-    pub is_way : IsWay (disk.contents d) way
-    pub full : IsFullWith way needed most files
-
-  -- on the way that it has there is room for all of them
-  pub record HadRoom (files : List Placed) (d : D) : Type 0 where
-    pub way : Way
-    pub is_way : IsWay (disk.contents d) way
-    pub room : HasRoom way files

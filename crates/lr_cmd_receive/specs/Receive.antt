@@ -16,7 +16,7 @@ use Rattle.lr_causes.specs.declared.cause.Party.TheVariants.{Source, Disk, Outpu
 use Rattle.lr_causes.specs.declared.cause.Refusal.TheVariants.{NotAShelf, Capacity}
 use Rattle.lr_forms.specs.declared.forms.Input.{Input}
 use Rattle.lr_causes.specs.Causes.{IsEarlier, MayEndBefore, cause_at}
-use Rattle.lr_causes.specs.Outside.{NoFault, Outlets, Outside, World, counts_in}
+use Rattle.lr_causes.specs.Outside.{NoFault, Outlets, OutletsOf, Outside, World, counts_in}
 use Rattle.lr_causes.specs.Outside.{TellOn, outlets_in, world_outlets}
 use Rattle.lr_causes.specs.Counts.{CountsTell}
 use Rattle.lr_cmd_receive.specs.First.{SourceBesides}
@@ -130,22 +130,23 @@ module _ {S D O : Type 0} (world : World S D O) (asked : ReceiveQuery) (bytes : 
 
 -- ---- what it leaves after what was there
 
-module _ {S D O : Type 0} (world : World S D O) (run : Run) where
+module _ {D O : Type 0} (world : OutletsOf D O) (run : Run) (w w' : Outlets D O) where
   -- the first outcomes of these bytes, this many, are worked through: their files are acknowledged, as the first ones
   -- of all
-  abbrev pub AreWorked : Outlets D O → Outlets D O → List ℕ → (count : ℕ) → Type 0
-  AreWorked w w' bytes count =
-      AreAcknowledged (world_outlets world) run.initial (files_asked run.asked run.bytes)
+  abbrev pub AreWorked : List ℕ → (count : ℕ) → Type 0
+  AreWorked bytes count =
+      AreAcknowledged world run.initial (files_asked run.asked run.bytes)
       (noted_of_outcomes run.asked.mend (take count (outcomes_of_bytes run.asked.input bytes))) w w'
 
   -- as the source is asked, which gave these bytes in these pieces: so are those that count, but for the few that may
   -- wait
-  abbrev pub AreInTime : Outlets D O → Outlets D O → List ℕ → List (List ℕ) → Type 0
-  AreInTime w w' given pieces =
+  abbrev pub AreInTime : List ℕ → List (List ℕ) → Type 0
+  AreInTime given pieces =
       (count few : ℕ) → MayWait run.asked.input (leeway_for run.asked.input run.asked.workers) given pieces few
       → HaveCome run.asked.input (leeway_for run.asked.input run.asked.workers).tail given (count + few)
-      → AreWorked w w' given count
+      → AreWorked given count
 
+module _ {S D O : Type 0} (world : World S D O) (run : Run) where
   -- no file of the bytes taken is put off
   pub record PutsNoFileOff (w w' : Outside S D O) : Type 0 where
     -- However the run ended: of the outcomes of the bytes taken all but the last few are worked through, and their
@@ -153,16 +154,17 @@ module _ {S D O : Type 0} (world : World S D O) (run : Run) where
     pub timely : (count : ℕ)
         → HaveCome run.asked.input 0 run.bytes
         (count + (leeway_for run.asked.input run.asked.workers).at_end)
-        → AreWorked (outlets_in w) (outlets_in w') run.bytes count
+        → AreWorked (world_outlets world) run (outlets_in w) (outlets_in w') run.bytes count
     -- So are those after which the symbols or bytes were taken that this names.
     pub timely_in_bytes : (count : ℕ)
         → HaveCome run.asked.input (leeway_for run.asked.input run.asked.workers).ahead run.bytes count
-        → AreWorked (outlets_in w) (outlets_in w') run.bytes count
+        → AreWorked (world_outlets world) run (outlets_in w) (outlets_in w') run.bytes count
     -- And no file waited for the source: when it was last asked, each frame whose window it had given was worked
     -- through, and each block or frame of bytes. Only where more than one work on windows, and it had just given all
     -- that it was asked for, the last few might wait. Any append may be the one that fails, so they were worked through
     -- before that call.
-    pub in_time : WhenLastAsked world.source (AreInTime (outlets_in w) (outlets_in w')) run.bytes w.source w'.source
+    pub in_time : WhenLastAsked world.source (AreInTime (world_outlets world) run (outlets_in w) (outlets_in w'))
+        run.bytes w.source w'.source
 
   -- the run took these bytes, and they came onto what was there
   pub record Receives (cause : Cause) (w w' : Outside S D O) : Type 0 where

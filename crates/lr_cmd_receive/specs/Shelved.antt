@@ -16,10 +16,10 @@ use Rattle.lr_causes.specs.Counts.{CountsTell}
 use Rattle.lr_cmd_receive.specs.First.{SourceBesides}
 use Rattle.lr_cmd_receive.specs.Noted.{NotedFile, noted_of_outcomes, placed_files}
 use Rattle.lr_shelf.specs.Adding.{StaysOutside}
-use Rattle.lr_shelf.specs.InitialShelves.{InitialShelf, IsSettledOn, LeavesPrefixes, next_number}
+use Rattle.lr_shelf.specs.InitialShelves.{InitialShelf, IsSettledOn, LeavesPrefixes}
 use Rattle.lr_shelf.specs.Prefixes.{HasRoom, end_with}
 use Rattle.lr_cmd_receive.specs.Onto.{ChangesFor, ChangesImagesFor, IsFullWith}
-use Rattle.lr_cmd_receive.specs.Shelving.{shelved_lines, AreAcknowledged, GotText, Stops, StopsInLines, files_onto}
+use Rattle.lr_cmd_receive.specs.Shelving.{shelved_lines, AreAcknowledged, GotText, Stops, StopsInLines}
 
 -- the causes for which shelving may stop, over any disk
 abbrev pub MayStop : Cause → Type 0
@@ -82,7 +82,7 @@ module _ {D O : Type 0} (world : OutletsOf D O) where
       (now : ShelfIn (Outlets D O)) : Type 0 where
     pub settled : IsSettledOn initial (placed_files done) world.disk now.shelf now.lent.disk
     pub any_moment : LeavesPrefixes world.disk initial (placed_files done) w.disk now.lent.disk
-    pub put : Puts world.out (shelved_lines (next_number initial) done) w.out now.lent.out
+    pub put : Puts world.out (shelved_lines (length initial.way.entries) done) w.out now.lent.out
     pub disk_count : world.disk.faults now.lent.disk ≡ world.disk.faults w.disk
 
   -- these files were shelved, and their lines put; nothing failed
@@ -117,11 +117,11 @@ module _ {D O : Type 0} (world : OutletsOf D O) where
     -- after others, on any initial shelf
     pub stops : (initial : InitialShelf) (done : List NotedFile) (before : Outlets D O)
         → ShelvesSoFar initial done before old
-        → Stops world (files_onto initial (done ++ files)) cause before w'
+        → Stops world initial (done ++ files) cause before w'
     -- those stay acknowledged
     pub keeps : (initial : InitialShelf) (done : List NotedFile) (before : Outlets D O)
         → ShelvesSoFar initial done before old
-        → AreAcknowledged world (files_onto initial (done ++ files)) done before w'
+        → AreAcknowledged world initial (done ++ files) done before w'
     -- over every disk
     pub grown : GrowsNoMore cause (placed_files files) old w'
     pub lines : StopsInLines world.out cause (length (way_in old).entries) files old.lent.out w'.out

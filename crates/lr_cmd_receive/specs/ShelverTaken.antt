@@ -8,7 +8,7 @@ use Rattle.lr_reading.specs.declared.arrival.Arrival.{Arrival}
 use Rattle.lr_cmd_receive.specs.Noted.{NotedFile, noted_of_outcomes}
 use Rattle.lr_cmd_receive.specs.declared.shelver.Shelver.{Shelver}
 use Rattle.lr_cmd_receive.specs.Shelved.{HasShelved, ShelfIn, ShelvesSoFar, StopsShelving, shelf_in}
-use Rattle.lr_cmd_receive.specs.Shelving.{AreAcknowledged, files_onto}
+use Rattle.lr_cmd_receive.specs.Shelving.{AreAcknowledged}
 use Rattle.lr_shelf.specs.InitialShelves.{InitialShelf}
 
 -- the layers, the shelf, the disk and `out` are those that it had
@@ -57,5 +57,5 @@ module _ {D O : Type 0} (world : OutletsOf D O) where
     pub one : length late ≤ 1
     pub keeps : (initial : InitialShelf) (start : Outlets D O)
         → ShelvesSoFar world initial [] start (shelf_of before)
-        → AreAcknowledged world (files_onto initial (files_of_arrivals (mend_of before) arrivals))
+        → AreAcknowledged world initial (files_of_arrivals (mend_of before) arrivals)
         (files_of_arrivals (mend_of before) worked) start (lent_to now)

@@ -1,5 +1,5 @@
 -- What `trial` does to the outside.
-use Rattle.std.specs.Prelude.{◌≡◌, ◌⊎◌, ℕ, List, [], length}
+use Rattle.std.specs.Prelude.{◌≡◌, ◌⊎◌, ◌≤◌, ◌++◌, ℕ, List, [], length}
 use Rattle.lr_bits.specs.declared.placed.Placed.{Placed}
 use Rattle.lr_io.specs.declared.sink.Sink.{Ghosts as SinkOf}
 use Rattle.lr_conv.specs.declared.line.TheConstants.{STANDARD}
@@ -7,6 +7,7 @@ use Rattle.lr_disk.specs.declared.disk.Disk.{Ghosts as DiskOf}
 use Rattle.lr_disk.specs.Disk.{Only}
 use Rattle.lr_disk.specs.Reads.{IsOnlyRead, IsUnwritten}
 use Rattle.lr_disk.specs.Pending.{EachImageSince, NothingPending}
+use Rattle.lr_shelf_format.specs.ShelfBytes.{StandsForShelf}
 use Rattle.lr_shelf_format.specs.Way.{way_of}
 use Rattle.lr_shelf.specs.Init.{IsTaken, IsBlank, IsLeftByInit, new_shelf}
 use Rattle.lr_shelf.specs.Shelf.{IsDurable}
@@ -25,7 +26,7 @@ use Rattle.lr_cmd_receive.specs.Inputs.{files_of_bytes}
 use Rattle.lr_cmd_receive.specs.Noted.{placed_files}
 use Rattle.lr_cmd_receive.specs.Onto.{ChangesFor}
 use Rattle.lr_cmd_receive.specs.Receive.{receive_last}
-use Rattle.lr_shelf.specs.InitialShelves.{OfItems, StandsForPrefix, with_files}
+use Rattle.lr_shelf.specs.InitialShelves.{with_files}
 
 -- how many bytes the shelf may have
 abbrev pub trial_capacity : ℕ
@@ -36,9 +37,12 @@ abbrev pub trial_files : List ℕ → List Placed
 trial_files symbols = placed_files (files_of_bytes 0 (Symbols STANDARD) symbols)
 
 -- these bytes stand for a shelf of that capacity with a prefix of the files of these symbols, with n of them at least
-abbrev pub StandsForPart : List ℕ → ℕ → List ℕ → Type 0
-StandsForPart symbols n bytes =
-    StandsForPrefix (OfItems trial_capacity []) (trial_files symbols) n bytes
+pub record StandsForPart (symbols : List ℕ) (n : ℕ) (bytes : List ℕ) : Type 0 where
+  pub first : List Placed
+  pub rest : List Placed
+  pub split : trial_files symbols ≡ first ++ rest
+  pub enough : n ≤ length first
+  pub stands : StandsForShelf bytes trial_capacity (with_files [] first)
 
 -- These bytes do so, and they were an empty shelf: but for the first ones of the files, for which there is room, they
 -- are as they were.
@@ -111,4 +115,4 @@ module _ {D O : Type 0} (world : OutletsOf D O) (symbols : List ℕ) where
     pub on_out : OutEnds world.out symbols cause w.out w'.out
     pub tell : TellOn world w w'
     -- the first event decides, but a disk that fails as the shelf is taken away is told instead of want of memory
-    pub first : CountsTell SourceBesides cause (outlet_counts world w) (outlet_counts world w')
+    pub counted : CountsTell SourceBesides cause (outlet_counts world w) (outlet_counts world w')

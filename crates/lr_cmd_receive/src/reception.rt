@@ -6,10 +6,10 @@ ghost use Rattle.lr_causes.specs.Outside.{outside, world_of, outlets_of};
 ghost use Rattle.lr_forms.specs.declared.forms.Input.{Input as Input'};
 ghost use Rattle.lr_mend.specs.declared.mender.TheConstants.{MOST_FILLERS};
 ghost use Rattle.lr_reading.specs.Leading.{MayLead, Leads};
-ghost use Rattle.lr_reading.specs.Readers.{Leeway, leeway_for};
+ghost use Rattle.lr_reading.specs.Readers.{leeway_for};
 ghost use Rattle.lr_reading.specs.Runs.{IsLed, course_of, lent};
 ghost use Rattle.lr_cmd_receive.specs.Receive.{ReceiveRun, receive_query};
-ghost use Rattle.lr_cmd_receive.specs.Reception.{ReadsAll, ReadsSome, EndsRun, PutsLast, LastStops, reception};
+ghost use Rattle.lr_cmd_receive.specs.Reception.{ReadsAll, ReadsSome, EndsRun, PutsLast, LastStops};
 ghost use Rattle.lr_cmd_receive.specs.ShelverTaken.{ShelverTook, ShelverStopped};
 
 use crate::receive_counts::ReceiveCounts;
@@ -46,17 +46,18 @@ pub(crate) fn receive_all<
 ) -> Result<ReceiveCounts, Cause>
     requires mend { mend ≤ MOST_FILLERS }
     requires ready { MayLead (F.pre read) (ShelverTook (outlets_of D.Disk O.Sink)) }
-    ensures all { (input : Input') (most : ℕ) (leeway : Leeway) → Leads (F.post read)
-        (course_of S.Source (ShelverTook (outlets_of D.Disk O.Sink)) input most leeway)
+    ensures all { (input : Input') (workers most : ℕ) → Leads (F.post read)
+        (course_of S.Source (ShelverTook (outlets_of D.Disk O.Sink)) input most (leeway_for input workers))
         (ShelverStopped (outlets_of D.Disk O.Sink))
-        → IfOk result (λ sums. ReadsAll (world_of S.Source D.Disk O.Sink) (reception mend input most leeway) sums
+        → IfOk result
+        (λ sums. ReadsAll (world_of S.Source D.Disk O.Sink) (receive_query mend input workers most) sums
         (shelf_in shelf.old (outside source.old disk.old out.old))
         (shelf_in shelf.new (outside source.new disk.new out.new))) }
-    ensures some { (input : Input') (most : ℕ) (leeway : Leeway) → Leads (F.post read)
-        (course_of S.Source (ShelverTook (outlets_of D.Disk O.Sink)) input most leeway)
+    ensures some { (input : Input') (workers most : ℕ) → Leads (F.post read)
+        (course_of S.Source (ShelverTook (outlets_of D.Disk O.Sink)) input most (leeway_for input workers))
         (ShelverStopped (outlets_of D.Disk O.Sink))
         → IfErr result
-        (λ cause. ReadsSome (world_of S.Source D.Disk O.Sink) (reception mend input most leeway) cause
+        (λ cause. ReadsSome (world_of S.Source D.Disk O.Sink) (receive_query mend input workers most) cause
         (shelf_in shelf.old (outside source.old disk.old out.old)) (outside source.new disk.new out.new)) }
 {
     let alloc = shelf.allocator();
@@ -114,10 +115,10 @@ fn receive_onto<
 >(mend: u16, shelf: &mut Shelf, source: &mut S, disk: &mut D, out: &mut O, read: F) -> Cause
     requires mend { mend ≤ MOST_FILLERS }
     requires ready { MayLead (F.pre read) (ShelverTook (outlets_of D.Disk O.Sink)) }
-    ensures { (input : Input') (most : ℕ) (leeway : Leeway) → Leads (F.post read)
-        (course_of S.Source (ShelverTook (outlets_of D.Disk O.Sink)) input most leeway)
+    ensures { (input : Input') (workers most : ℕ) → Leads (F.post read)
+        (course_of S.Source (ShelverTook (outlets_of D.Disk O.Sink)) input most (leeway_for input workers))
         (ShelverStopped (outlets_of D.Disk O.Sink))
-        → EndsRun (world_of S.Source D.Disk O.Sink) (reception mend input most leeway) result
+        → EndsRun (world_of S.Source D.Disk O.Sink) (receive_query mend input workers most) result
         (shelf_in shelf.old (outside source.old disk.old out.old)) (outside source.new disk.new out.new) }
 {
     let alloc = shelf.allocator();

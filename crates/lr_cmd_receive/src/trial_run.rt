@@ -13,7 +13,7 @@ ghost use Rattle.lr_cmd_receive.specs.Made.{made_bytes, test_frames};
 ghost use Rattle.lr_cmd_receive.specs.Receive.{receive_last};
 ghost use Rattle.lr_cmd_receive.specs.Reception.{sums_line};
 ghost use Rattle.lr_reading.specs.Leading.{MayLead, Leads};
-ghost use Rattle.lr_reading.specs.Readers.{Leeway, leeway_for};
+ghost use Rattle.lr_reading.specs.Readers.{leeway_for};
 ghost use Rattle.lr_reading.specs.Runs.{IsLed, course_of, lent};
 ghost use Rattle.lr_cmd_receive.specs.ShelverTaken.{ShelverTook, ShelverStopped};
 ghost use Rattle.lr_cmd_receive.specs.Sure.{sure_source, sure_sink};
@@ -74,8 +74,9 @@ fn shelve_stream<
     F: FnOnce(&mut SureSource, &mut Shelver<'_, D, SureSink>) -> Result<ReadCounts, Cause>,
 >(alloc: Global, symbols: Vec<u8>, disk: &mut D, read: F) -> Result<ReceiveCounts, Cause>
     requires ready { MayLead (F.pre read) (ShelverTook (outlets_of D.Disk sure_sink)) }
-    requires leads { (leeway : Leeway) × Leads (F.post read)
-        (course_of sure_source (ShelverTook (outlets_of D.Disk sure_sink)) (Symbols standard) most_bytes leeway)
+    requires leads { (workers : ℕ) × Leads (F.post read)
+        (course_of sure_source (ShelverTook (outlets_of D.Disk sure_sink)) (Symbols standard) most_bytes
+        (leeway_for (Symbols standard) workers))
         (ShelverStopped (outlets_of D.Disk sure_sink)) }
     requires few { length symbols.items < most_bytes }
     requires fit { end_of (with_files [] (trial_files symbols.items))
@@ -103,8 +104,9 @@ fn fill<
     F: FnOnce(&mut SureSource, &mut Shelver<'_, D, SureSink>) -> Result<ReadCounts, Cause>,
 >(alloc: Global, symbols: Vec<u8>, disk: &mut D, out: &mut O, read: F) -> Cause
     requires ready { MayLead (F.pre read) (ShelverTook (outlets_of D.Disk sure_sink)) }
-    requires leads { (leeway : Leeway) × Leads (F.post read)
-        (course_of sure_source (ShelverTook (outlets_of D.Disk sure_sink)) (Symbols standard) most_bytes leeway)
+    requires leads { (workers : ℕ) × Leads (F.post read)
+        (course_of sure_source (ShelverTook (outlets_of D.Disk sure_sink)) (Symbols standard) most_bytes
+        (leeway_for (Symbols standard) workers))
         (ShelverStopped (outlets_of D.Disk sure_sink)) }
     requires few { length symbols.items < most_bytes }
     requires fit { end_of (with_files [] (trial_files symbols.items))
@@ -133,8 +135,9 @@ fn trial_with<
     requires few { made.frames ≤ 1024 }
     requires wrong { made.wrong ≤ 16 }
     requires ready { MayLead (F.pre read) (ShelverTook (outlets_of D.Disk sure_sink)) }
-    requires leads { (leeway : Leeway) × Leads (F.post read)
-        (course_of sure_source (ShelverTook (outlets_of D.Disk sure_sink)) (Symbols standard) most_bytes leeway)
+    requires leads { (workers : ℕ) × Leads (F.post read)
+        (course_of sure_source (ShelverTook (outlets_of D.Disk sure_sink)) (Symbols standard) most_bytes
+        (leeway_for (Symbols standard) workers))
         (ShelverStopped (outlets_of D.Disk sure_sink)) }
     ensures { TrialRun (outlets_of D.Disk O.Sink)
         (made_bytes Output.Symbols (test_frames made.start made.frames made.wrong))

@@ -7,7 +7,7 @@ use Rattle.lr_cmd_receive.proofs.new_shelf.init.Goals as goal
 pub returns-in-Err-shelf_answer-clause-run : goal.returns-in-Err-shelf_answer-clause-run
 returns-in-Err-shelf_answer-clause-run g c = record {
   ends = search rules;
-  first = search rules;
+  counted = search rules;
   taken = search rules;
   left = λ t failed. subst (λ r. OnErr r (IsLeftByInit c.args.capacity (g.D.Disk.contents c.args.disk.now)
       (g.D.Disk.contents c.init.new.disk))) (refused c.init.result c.shelf_answer.result c.shelf_answer.ensures

@@ -17,7 +17,7 @@ read-requires g c =
     search (rules, shelver_ready)
 
 pub returns-in_err-totals-clause-some : goal.returns-in_err-totals-clause-some
-returns-in_err-totals-clause-some g c input limit leeway leads =
+returns-in_err-totals-clause-some g c input workers limit leads =
     let p = err_from_is_err_and c.from_residual.result c.from_residual.ensures.1 in
     let kept = c.mending-layers.result in
     let most = c.mending-layers.ensures.most in
@@ -28,11 +28,11 @@ returns-in_err-totals-clause-some g c input limit leeway leads =
     let stopped = some.stops _ begun in
     let same_disk = stopped.on_same.same_disk in
     let same_out = stopped.on_same.same_out in
-    let received = read_some g.S.Source g.D.Disk g.O.Sink input limit begun c.args.mend most leeway _ some in
+    let received = read_some g.S.Source g.D.Disk g.O.Sink input limit begun c.args.mend most workers _ some in
     rw (p.1, p.2) (search rules)
 
 pub returns-clause-all : goal.returns-clause-all
-returns-clause-all g c input limit leeway leads =
+returns-clause-all g c input workers limit leads =
     let kept = c.mending-layers.result in
     let most = c.mending-layers.ensures.most in
     let begun = shelver_begun g.D.Disk g.O.Sink _
@@ -43,6 +43,6 @@ returns-clause-all g c input limit leeway leads =
     let same_shelf = took.on_same.same_shelf in
     let same_disk = took.on_same.same_disk in
     let same_out = took.on_same.same_out in
-    let received = read_all g.S.Source g.D.Disk g.O.Sink input limit begun c.args.mend most leeway
+    let received = read_all g.S.Source g.D.Disk g.O.Sink input limit begun c.args.mend most workers
     (record { totals = c.in_ok-totals.totals; counts = _ }) all refl in
     search rules

@@ -1,27 +1,31 @@
 use Rattle.lr_cmd_receive.proofs.ReceiveEnding.{ended_some, last_stopped, all_put}
 use Rattle.lr_causes.specs.Outside.{outside, world_of}
+use Rattle.lr_cmd_receive.specs.Receive.{receive_query}
 use Rattle.lr_cmd_receive.proofs.reception.receive_onto.Goals as goal
 
 pub returns-in-Err : goal.returns-in-Err
-returns-in-Err g c input most leeway leads =
-    ended_some (world_of g.S.Source g.D.Disk g.O.Sink) c.args.mend input most c.args.shelf.now
+returns-in-Err g c input workers most leads =
+    ended_some (world_of g.S.Source g.D.Disk g.O.Sink) (receive_query c.args.mend input workers most)
+    c.args.shelf.now
     (outside c.args.source.now c.args.disk.now c.args.out.now)
-    (outside c.receive_all.new.source c.receive_all.new.disk c.receive_all.new.out) leeway _
-    (c.in-Err.ensures.some input most leeway leads)
+    (outside c.receive_all.new.source c.receive_all.new.disk c.receive_all.new.out) _
+    (c.in-Err.ensures.some input workers most leads)
 
 pub returns-in-Ok-put_last : goal.returns-in-Ok-put_last
-returns-in-Ok-put_last g c input most leeway leads =
+returns-in-Ok-put_last g c input workers most leads =
     rw c.cause_at.ensures
-    (all_put (world_of g.S.Source g.D.Disk g.O.Sink) c.args.mend input most c.args.shelf.now
+    (all_put (world_of g.S.Source g.D.Disk g.O.Sink) (receive_query c.args.mend input workers most)
+    c.args.shelf.now
     (outside c.args.source.now c.args.disk.now c.args.out.now)
-    (outside c.receive_all.new.source c.receive_all.new.disk c.receive_all.new.out) leeway c.in-Ok.sums
-    c.receive_all.new.shelf (c.in-Ok.ensures.all input most leeway leads) c.put_last.new.out
+    (outside c.receive_all.new.source c.receive_all.new.disk c.receive_all.new.out) c.in-Ok.sums
+    c.receive_all.new.shelf (c.in-Ok.ensures.all input workers most leads) c.put_last.new.out
     c.in-Ok-put_last.ensures.put)
 
 pub returns-in-Err-put_last : goal.returns-in-Err-put_last
-returns-in-Err-put_last g c input most leeway leads =
-    last_stopped (world_of g.S.Source g.D.Disk g.O.Sink) c.args.mend input most c.args.shelf.now
+returns-in-Err-put_last g c input workers most leads =
+    last_stopped (world_of g.S.Source g.D.Disk g.O.Sink) (receive_query c.args.mend input workers most)
+    c.args.shelf.now
     (outside c.args.source.now c.args.disk.now c.args.out.now)
-    (outside c.receive_all.new.source c.receive_all.new.disk c.receive_all.new.out) leeway c.in-Ok.sums
-    c.receive_all.new.shelf (c.in-Ok.ensures.all input most leeway leads) c.put_last.new.out _
+    (outside c.receive_all.new.source c.receive_all.new.disk c.receive_all.new.out) c.in-Ok.sums
+    c.receive_all.new.shelf (c.in-Ok.ensures.all input workers most leads) c.put_last.new.out _
     c.in-Err-put_last.ensures.stopped

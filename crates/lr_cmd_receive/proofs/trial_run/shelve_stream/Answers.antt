@@ -25,6 +25,6 @@ returns g c =
     (given c.load.result c.shelf_answer.result c.shelf_answer.ensures c.in-Ok.shelf c.in-Ok.is)
     c.of-source.result c.receive_all.new.source tt c.of-source.ensures c.receive_all.new.disk c.new-lines.result
     c.receive_all.new.out c.requires.leads.0 c.receive_all.new.shelf c.receive_all.result
-    (c.receive_all.ensures.all _ _ c.requires.leads.0 c.requires.leads.1)
-    (c.receive_all.ensures.some _ _ c.requires.leads.0 c.requires.leads.1) none_rose c.requires.fit (λ x. refl) in
+    (c.receive_all.ensures.all _ c.requires.leads.0 _ c.requires.leads.1)
+    (c.receive_all.ensures.some _ c.requires.leads.0 _ c.requires.leads.1) none_rose c.requires.fit (λ x. refl) in
     record { line = ends.0; done = ends.1; stopped = ends.2 }
