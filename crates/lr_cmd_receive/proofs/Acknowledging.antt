@@ -13,7 +13,7 @@ use Rattle.lr_cmd_receive.specs.Inputs.{files_of_bytes}
 use Rattle.lr_cmd_receive.specs.Noted.{NotedFile, placed_files}
 use Rattle.lr_cmd_receive.proofs.Noted.{length-placed, placed-append}
 use Rattle.lr_cmd_receive.specs.Reception.{FewWait, run_of}
-use Rattle.lr_cmd_receive.specs.Receive.{ReceiveQuery}
+use Rattle.lr_cmd_receive.specs.Receive.{ReceiveQuery, files_asked}
 use Rattle.lr_cmd_receive.specs.Shelving.{AreAcknowledged, shelved_lines}
 use Rattle.lr_cmd_receive.proofs.ShelvedLines.{shelved_lines-append}
 
@@ -164,9 +164,9 @@ module _ {D O : Type 0} (world : OutletsOf D O) (initial : InitialShelf) where
 
   -- all is worked through
   pub all_worked : (asked : ReceiveQuery) (bytes : List ℕ) (w w' : Outlets D O)
-      → HoldsStill initial (placed_files (files_of_bytes asked.mend asked.input bytes)) world.disk w'.disk
+      → HoldsStill initial (placed_files (files_asked asked bytes)) world.disk w'.disk
       → (world.out.tells w.out → (text : List ℕ) × (world.out.contents w'.out
-      ≡ world.out.contents w.out ++ (shelved_lines (length initial.way.entries) (files_of_bytes asked.mend asked.input bytes) ++ text)))
+      ≡ world.out.contents w.out ++ (shelved_lines (length initial.way.entries) (files_asked asked bytes) ++ text)))
       → FewWait world (run_of asked initial bytes) w w'
   unfolding files_of_bytes
   all_worked asked bytes w w' durable told = record {
@@ -179,5 +179,5 @@ module _ {D O : Type 0} (world : OutletsOf D O) (initial : InitialShelf) where
       come_within asked.input (leeway_for asked.input asked.workers).ahead bytes count come,
       outcomes_counted asked.input bytes,
     );
-    acknowledged = all_acknowledged (files_of_bytes asked.mend asked.input bytes) w w' durable told;
+    acknowledged = all_acknowledged (files_asked asked bytes) w w' durable told;
   }

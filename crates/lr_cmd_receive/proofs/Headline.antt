@@ -9,7 +9,6 @@ use Rattle.lr_causes.specs.declared.cause.Cause.{Cause}
 use Rattle.lr_causes.specs.declared.cause.Cause.TheVariants.{Done, Failed, NoMemory, Refused}
 use Rattle.lr_causes.specs.declared.cause.Party.TheVariants.{Source, Disk, Output}
 use Rattle.lr_causes.specs.declared.cause.Refusal.TheVariants.{Capacity}
-use Rattle.lr_cmd_receive.specs.Inputs.{files_of_bytes}
 use Rattle.lr_cmd_receive.specs.Noted.{NotedFile, placed_files}
 use Rattle.lr_cmd_receive.proofs.Noted.{length-placed, placed-append, placed_split}
 use Rattle.lr_shelf.specs.InitialShelves.{InitialShelf, HoldsStill, StandsWith}
@@ -20,7 +19,7 @@ use Rattle.lr_cmd_receive.specs.Shelving.{FullStops, StandsForOneFileMore, Stops
 use Rattle.lr_causes.specs.Outside.{NoFault, World, Outside, counts_in, outlets_in, world_outlets}
 use Rattle.lr_causes.specs.Counts.{CountsTell}
 use Rattle.lr_cmd_receive.specs.First.{SourceBesides}
-use Rattle.lr_cmd_receive.specs.Receive.{IsWorkDone, ReceiveQuery, Receives}
+use Rattle.lr_cmd_receive.specs.Receive.{IsWorkDone, ReceiveQuery, Receives, files_asked}
 use Rattle.lr_cmd_receive.specs.Reception.{EndsOnto, run_of}
 use Rattle.lr_cmd_receive.specs.Shelved.{MayStop}
 use Rattle.lr_cmd_receive.proofs.ReceiveEnding.{no_work}
@@ -140,39 +139,39 @@ module _ (initial : InitialShelf) (files whole rest : List NotedFile) (split : f
 module _ {S D O : Type 0} (world : World S D O) (asked : ReceiveQuery) (initial : InitialShelf) (bytes : List ℕ)
     (w w' : Outside S D O) where
   -- where the last lines are to come, all files are there
-  every : (n : ℕ) → n ≤ length (files_of_bytes asked.mend asked.input bytes)
-      → HoldsStill initial (placed_files (files_of_bytes asked.mend asked.input bytes)) world.disk w'.disk
-      → HoldsPrefix world.disk initial (placed_files (files_of_bytes asked.mend asked.input bytes)) n w'.disk
-  every n enough durable = holds world.disk initial (files_of_bytes asked.mend asked.input bytes) w'.disk
-      (files_of_bytes asked.mend asked.input bytes) [] n (sym (append-nil (files_of_bytes asked.mend asked.input bytes))) enough durable
+  every : (n : ℕ) → n ≤ length (files_asked asked bytes)
+      → HoldsStill initial (placed_files (files_asked asked bytes)) world.disk w'.disk
+      → HoldsPrefix world.disk initial (placed_files (files_asked asked bytes)) n w'.disk
+  every n enough durable = holds world.disk initial (files_asked asked bytes) w'.disk
+      (files_asked asked bytes) [] n (sym (append-nil (files_asked asked bytes))) enough durable
 
   module _ (whole rest : List NotedFile) (text : List ℕ) (told : world.out.tells w.out)
-      (split : files_of_bytes asked.mend asked.input bytes
+      (split : files_asked asked bytes
       ≡ whole ++ rest) (put : world.out.contents w'.out ≡ world.out.contents w.out
       ++ (shelved_lines (length initial.way.entries) whole ++ text)) where
-    enough_of : (first more : List NotedFile) (got : List ℕ) → files_of_bytes asked.mend asked.input bytes ≡ first ++ more
+    enough_of : (first more : List NotedFile) (got : List ℕ) → files_asked asked bytes ≡ first ++ more
         → world.out.contents w'.out ≡ world.out.contents w.out ++ got
         → length got ≤ length (shelved_lines (length initial.way.entries) first) → length whole ≤ length first
     enough_of first more got known got_put le =
-        acknowledged initial (files_of_bytes asked.mend asked.input bytes) whole rest split first more (world.out.contents w.out)
+        acknowledged initial (files_asked asked bytes) whole rest split first more (world.out.contents w.out)
         (world.out.contents w'.out) got text known got_put le put
 
-    every_one : HoldsStill initial (placed_files (files_of_bytes asked.mend asked.input bytes)) world.disk w'.disk
-        → HoldsPrefix world.disk initial (placed_files (files_of_bytes asked.mend asked.input bytes)) (length whole) w'.disk
-    every_one durable = every (length whole) (all_there initial (files_of_bytes asked.mend asked.input bytes) whole rest split)
+    every_one : HoldsStill initial (placed_files (files_asked asked bytes)) world.disk w'.disk
+        → HoldsPrefix world.disk initial (placed_files (files_asked asked bytes)) (length whole) w'.disk
+    every_one durable = every (length whole) (all_there initial (files_asked asked bytes) whole rest split)
         durable
 
     held_stopped : (cause : Cause)
-        → StopsBy (world_outlets world) initial (files_of_bytes asked.mend asked.input bytes) cause (outlets_in w)
+        → StopsBy (world_outlets world) initial (files_asked asked bytes) cause (outlets_in w)
         (outlets_in w')
-        → HoldsPrefix world.disk initial (placed_files (files_of_bytes asked.mend asked.input bytes)) (length whole) w'.disk
+        → HoldsPrefix world.disk initial (placed_files (files_asked asked bytes)) (length whole) w'.disk
     held_stopped (Failed Disk) e =
         let enough = enough_of e.done e.rest (shelved_lines (length initial.way.entries) e.done) e.split (e.got told)
         (omega arith) in
         record {
-          contents = front_of world.disk initial (files_of_bytes asked.mend asked.input bytes) w'.disk e.done e.rest (length whole)
+          contents = front_of world.disk initial (files_asked asked bytes) w'.disk e.done e.rest (length whole)
               (world.disk.contents w'.disk) e.split enough e.contents;
-          images = λ c image. front_of world.disk initial (files_of_bytes asked.mend asked.input bytes) w'.disk e.done e.rest
+          images = λ c image. front_of world.disk initial (files_asked asked bytes) w'.disk e.done e.rest
               (length whole) c e.split enough (e.images c image);
         }
     held_stopped (Failed Output) e =
@@ -189,22 +188,22 @@ module _ {S D O : Type 0} (world : World S D O) (asked : ReceiveQuery) (initial 
         ) in
         let put_is : world.out.contents w'.out ≡ world.out.contents w.out ++ got = cut.put
         ∙ append_assoc (world.out.contents w.out) (shelved_lines (length initial.way.entries) e.done) cut.part in
-        holds world.disk initial (files_of_bytes asked.mend asked.input bytes) w'.disk first e.rest (length whole) e.split
+        holds world.disk initial (files_asked asked bytes) w'.disk first e.rest (length whole) e.split
         (enough_of first e.rest got e.split put_is le) e.durable
     held_stopped NoMemory e =
         let enough = enough_of e.done e.rest (shelved_lines (length initial.way.entries) e.done) e.split (e.got told)
         (omega arith) in
-        holds world.disk initial (files_of_bytes asked.mend asked.input bytes) w'.disk e.done e.rest (length whole)
+        holds world.disk initial (files_asked asked bytes) w'.disk e.done e.rest (length whole)
         e.split enough e.durable
     held_stopped (Refused (Capacity needed most)) e =
         let enough = enough_of e.done (e.next ∷ e.rest) (shelved_lines (length initial.way.entries) e.done) e.split
         (e.got told) (omega arith) in
-        holds world.disk initial (files_of_bytes asked.mend asked.input bytes) w'.disk e.done (e.next ∷ e.rest) (length whole)
+        holds world.disk initial (files_asked asked bytes) w'.disk e.done (e.next ∷ e.rest) (length whole)
         e.split enough e.durable
     held_stopped _ e = absurd e
 
     held : (cause : Cause) → MayStop cause ⊎ IsWorkDone cause → EndsOnto world (run_of asked initial bytes) cause w w'
-        → HoldsPrefix world.disk initial (placed_files (files_of_bytes asked.mend asked.input bytes)) (length whole)
+        → HoldsPrefix world.disk initial (placed_files (files_asked asked bytes)) (length whole)
         w'.disk
     held cause kind ends = ⊎_elim
         (λ may. ⊎_elim (held_stopped cause) (λ last. every_one last.2) (ends.stops (no_work cause may)))
@@ -212,9 +211,9 @@ module _ {S D O : Type 0} (world : World S D O) (asked : ReceiveQuery) (initial 
 
   -- a full shelf had no room for all
   not_full : (needed most : ℕ)
-      → FullStops (world_outlets world) initial (files_of_bytes asked.mend asked.input bytes) needed most
+      → FullStops (world_outlets world) initial (files_asked asked bytes) needed most
       (outlets_in w) (outlets_in w')
-      → HasRoom initial.way (placed_files (files_of_bytes asked.mend asked.input bytes)) → ⊥
+      → HasRoom initial.way (placed_files (files_asked asked bytes)) → ⊥
   not_full needed most e fits =
       lacks_room initial.way (placed_files e.done) e.next.placed (placed_files e.rest)
       (subst (λ (l : List Placed). initial.way.capacity < end_with initial.way.end l)
@@ -223,7 +222,7 @@ module _ {S D O : Type 0} (world : World S D O) (asked : ReceiveQuery) (initial 
 
   complete : (cause : Cause) → MayStop cause ⊎ IsWorkDone cause → EndsOnto world (run_of asked initial bytes) cause w w'
       → CountsTell SourceBesides cause (counts_in world w) (counts_in world w') → NoFault world w w'
-      → HasRoom initial.way (placed_files (files_of_bytes asked.mend asked.input bytes))
+      → HasRoom initial.way (placed_files (files_asked asked bytes))
       → (cause ≡ Done) ⊎ (cause ≡ NoMemory)
   complete Done kind e first quiet fits = inl refl
   complete (Failed Source) kind e first quiet fits = absurd (quiet.of_source first.named)
@@ -236,7 +235,7 @@ module _ {S D O : Type 0} (world : World S D O) (asked : ReceiveQuery) (initial 
   complete _ kind e first quiet fits = absurd (⊎_elim (λ (may : ⊥). may) (λ (done : ⊥). done) kind)
 
   pub receives : (cause : Cause) → LeavesPrefixes world.disk initial (placed_files
-      (files_of_bytes asked.mend asked.input bytes)) w.disk w'.disk
+      (files_asked asked bytes)) w.disk w'.disk
       → MayStop cause ⊎ IsWorkDone cause → EndsOnto world (run_of asked initial bytes) cause w w'
       → CountsTell SourceBesides cause (counts_in world w) (counts_in world w')
       → Receives world (run_of asked initial bytes) cause w w'

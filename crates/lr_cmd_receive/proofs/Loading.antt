@@ -31,7 +31,7 @@ use Rattle.lr_reading.specs.Reading.{IsRead}
 use Rattle.lr_shelf.specs.InitialShelves.{InitialShelf, HoldsStill, StandsWith}
 use Rattle.lr_shelf.specs.InitialShelves.{LeavesPrefixes, initial_shelf}
 use Rattle.lr_cmd_receive.specs.Shelved.{MayStop}
-use Rattle.lr_cmd_receive.specs.Receive.{Receives, IsReceiveCause, IsWorkDone, ReceiveQuery, ReceiveRun}
+use Rattle.lr_cmd_receive.specs.Receive.{Receives, IsReceiveCause, IsWorkDone, ReceiveQuery, ReceiveRun, files_asked}
 use Rattle.lr_cmd_receive.specs.Receive.{StopsEarly}
 use Rattle.lr_cmd_receive.specs.Reception.{FewWait, run_of}
 use Rattle.lr_cmd_receive.specs.Shelving.{StopsInLines, shelved_lines}
@@ -129,8 +129,9 @@ pub nothing_waits : {S D O : Type 0} (world : World S D O) (initial : InitialShe
     → FewWait (world_outlets world) (run_of asked initial []) (outlets_in w) (outlets d w.out)
 nothing_waits world initial asked w d still =
     all_worked (world_outlets world) initial asked [] (outlets_in w) (outlets d w.out)
-    (subst (λ (l : List NotedFile). HoldsStill initial (placed_files l) world.disk d) (sym (no_bytes asked.mend asked.input)) still)
-    (lines_alone (world_outlets world) initial (files_of_bytes asked.mend asked.input []) (outlets_in w) (outlets d w.out)
+    (subst (λ (l : List NotedFile). HoldsStill initial (placed_files l) world.disk d)
+    (sym (no_bytes asked.mend asked.input)) still)
+    (lines_alone (world_outlets world) initial (files_asked asked []) (outlets_in w) (outlets d w.out)
     (λ t. got_none world.out initial w.out t ∙ ap (λ (l : List NotedFile). world.out.contents w.out
     ++ shelved_lines (length initial.way.entries) l) (sym (no_bytes asked.mend asked.input))))
 
@@ -140,8 +141,8 @@ pub stopped_at_once : {S D O : Type 0} (world : World S D O) (asked : ReceiveQue
     → StopsEarly world asked [] cause w w'
 stopped_at_once world asked cause w w' same other = record {
   number = 0;
-  lines = inl (subst (λ o. StopsInLines world.out cause 0 (files_of_bytes asked.mend asked.input []) w.out o) (sym same)
-      (no_lines world.out cause 0 (files_of_bytes asked.mend asked.input []) w.out other));
+  lines = inl (subst (λ o. StopsInLines world.out cause 0 (files_asked asked []) w.out o) (sym same)
+      (no_lines world.out cause 0 (files_asked asked []) w.out other));
   numbered = λ way told is some. absurd (some (no_bytes asked.mend asked.input));
 }
 
@@ -220,11 +221,11 @@ module _ {S D O : Type 0} (world : World S D O)
     };
     writes = record {
       outside = λ way told is.
-          no_change way (placed_files (files_of_bytes asked.mend asked.input [])) (world.disk.contents w.disk)
+          no_change way (placed_files (files_asked asked [])) (world.disk.contents w.disk)
           (world.disk.contents w.disk) refl;
       outside_any_moment = λ way told is only.
           stays world.disk only_now w.disk _ told
-          (λ c image. no_change way (placed_files (files_of_bytes asked.mend asked.input [])) (world.disk.contents w.disk) c
+          (λ c image. no_change way (placed_files (files_asked asked [])) (world.disk.contents w.disk) c
           (only c image));
     };
   }

@@ -25,13 +25,12 @@ use Rattle.lr_reading.proofs.Coming.{outcomes_counted}
 use Rattle.lr_forms.specs.declared.forms.Input.{Input}
 use Rattle.lr_causes.specs.Causes.{IsEarlier, cause_at}
 use Rattle.lr_reading.specs.Inputs.{outcomes_of_bytes}
-use Rattle.lr_cmd_receive.specs.Inputs.{files_of_bytes}
 use Rattle.lr_cmd_receive.specs.Noted.{placed_files}
 use Rattle.lr_causes.specs.Puts.{PutFails}
 use Rattle.lr_shelf.specs.InitialShelves.{InitialShelf, HoldsStill, IsSettledOn, StandsWith}
 use Rattle.lr_cmd_receive.specs.Shelving.{shelved_lines}
 use Rattle.lr_cmd_receive.specs.Shelved.{MayStop, ShelvesSoFar, Grows, GrowsNoMore, shelf_in}
-use Rattle.lr_cmd_receive.specs.Receive.{counts_line, receive_count, receive_last, AreInTime}
+use Rattle.lr_cmd_receive.specs.Receive.{counts_line, receive_count, receive_last, AreInTime, files_asked}
 use Rattle.lr_cmd_receive.specs.Receive.{IsWorkDone, ReceiveQuery}
 use Rattle.lr_cmd_receive.specs.Reception.{FewWait, sums_line, PutsLast, LastStops, ReadsAll}
 use Rattle.lr_cmd_receive.specs.Reception.{ReadsSome, EndsOver, EndsRun, run_of}
@@ -167,10 +166,10 @@ module _ {S D O : Type 0} (world : World S D O) (asked : ReceiveQuery) where
       where
         -- nothing waits, neither now nor when the source was last asked
         none_waits : (initial : InitialShelf) (before : Outlets D O)
-            → HoldsStill initial (placed_files (files_of_bytes asked.mend asked.input all.bytes)) world.disk w1.disk
+            → HoldsStill initial (placed_files (files_asked asked all.bytes)) world.disk w1.disk
             → (world.out.tells before.out → (text : List ℕ) × (world.out.contents o2
             ≡ world.out.contents before.out
-            ++ (shelved_lines (length initial.way.entries) (files_of_bytes asked.mend asked.input all.bytes) ++ text)))
+            ++ (shelved_lines (length initial.way.entries) (files_asked asked all.bytes) ++ text)))
             → FewWait (world_outlets world) (run_of asked initial all.bytes) before
             (outlets w1.disk o2)
             × WhenLastAsked world.source (AreInTime (world_outlets world)
@@ -180,19 +179,20 @@ module _ {S D O : Type 0} (world : World S D O) (asked : ReceiveQuery) where
           all_worked (world_outlets world) initial asked all.bytes before (outlets w1.disk o2) durable told,
           all_in_time world.source asked all.bytes w.source w1.source (world_outlets world) initial
               before (outlets w1.disk o2) (all_acknowledged (world_outlets world) initial
-              (files_of_bytes asked.mend asked.input all.bytes) before (outlets w1.disk o2) durable told) all.in_time,
+              (files_asked asked all.bytes) before (outlets w1.disk o2) durable told) all.in_time,
         )
 
         line_is : sums_line sums ≡ receive_last asked.mend asked.input all.bytes sums.totals.stop
-        line_is = last_line_is world.source asked.mend asked.input asked.limit all.bytes w.source w1.source sums all.ends all.counts
+        line_is = last_line_is world.source asked.mend asked.input asked.limit all.bytes w.source w1.source sums
+            all.ends all.counts
 
         -- the files were written, and nothing else
         changes : world.disk.tells w.disk
-            → ChangesFor (kept_by shelf).way (placed_files (files_of_bytes asked.mend asked.input all.bytes))
+            → ChangesFor (kept_by shelf).way (placed_files (files_asked asked all.bytes))
             (world.disk.contents w.disk)
             (world.disk.contents w1.disk)
         changes t =
-            change_for (kept_by shelf).way (placed_files (files_of_bytes asked.mend asked.input all.bytes))
+            change_for (kept_by shelf).way (placed_files (files_asked asked all.bytes))
             (world.disk.contents w.disk)
             (world.disk.contents w1.disk) all.shelved.grown.room (all.shelved.outside t)
 
@@ -220,24 +220,28 @@ module _ {S D O : Type 0} (world : World S D O) (asked : ReceiveQuery) where
                 cut.part,
                 cut.put ∙ ap (λ (l : List ℕ). l ++ cut.part) (so_far.put.put t)
                     ∙ append_assoc (world.out.contents before.out)
-                    (shelved_lines (length initial.way.entries) (files_of_bytes asked.mend asked.input all.bytes)) cut.part,
+                    (shelved_lines (length initial.way.entries) (files_asked asked all.bytes)) cut.part,
               )) in (
                 so_far.any_moment,
                 record {
                   stands = λ done. absurd done;
-                  stops = λ undone. inr (refl, record {
-                    stop = sums.totals.stop;
-                    reason = all.ends.reason;
-                    part = λ t.
-                        let cut = fails.part (so_far.put.tell.told t) in
-                        record {
-                          part = cut.part;
-                          rest = cut.rest;
-                          split = sym line_is ∙ cut.split;
-                          shorter = omega (arith, cut.shorter, ap length line_is);
-                          put = cut.put ∙ ap (λ (l : List ℕ). l ++ cut.part) (so_far.put.put t);
-                        };
-                  }, so_far.settled.on_disk);
+                  stops = λ undone. inr (
+                    refl,
+                    record {
+                      stop = sums.totals.stop;
+                      reason = all.ends.reason;
+                      part = λ t.
+                          let cut = fails.part (so_far.put.tell.told t) in
+                          record {
+                            part = cut.part;
+                            rest = cut.rest;
+                            split = sym line_is ∙ cut.split;
+                            shorter = omega (arith, cut.shorter, ap length line_is);
+                            put = cut.put ∙ ap (λ (l : List ℕ). l ++ cut.part) (so_far.put.put t);
+                          };
+                    },
+                    so_far.settled.on_disk,
+                  );
                 },
                 none.0,
                 none.1,
@@ -287,15 +291,15 @@ module _ {S D O : Type 0} (world : World S D O) (asked : ReceiveQuery) where
           ends = λ initial before begun.
               let so_far = all.shelved.shelved initial [] before begun in
               let none = none_waits initial before so_far.settled.on_disk
-              (lines_alone (world_outlets world) initial (files_of_bytes asked.mend asked.input all.bytes) before
+              (lines_alone (world_outlets world) initial (files_asked asked all.bytes) before
               (outlets w1.disk o2) (λ t. ap world.out.contents same ∙ so_far.put.put t)) in (
                 so_far.any_moment,
                 record {
                   stands = λ done. absurd done;
                   stops = λ undone. inl (record {
-                    done = files_of_bytes asked.mend asked.input all.bytes;
+                    done = files_asked asked all.bytes;
                     rest = [];
-                    split = sym (append-nil (files_of_bytes asked.mend asked.input all.bytes));
+                    split = sym (append-nil (files_asked asked all.bytes));
                     durable = so_far.settled.on_disk;
                     got = λ t. ap world.out.contents same ∙ so_far.put.put t;
                   });
@@ -306,9 +310,9 @@ module _ {S D O : Type 0} (world : World S D O) (asked : ReceiveQuery) where
           over = over_last all.shelved.grown o2 NoMemory (λ needed most is. cc (is)) (λ is. cc (is)) (λ early. same);
           ended = λ done. absurd done;
           stopped = λ undone. inl (record {
-            done = files_of_bytes asked.mend asked.input all.bytes;
+            done = files_asked asked all.bytes;
             rest = [];
-            split = sym (append-nil (files_of_bytes asked.mend asked.input all.bytes));
+            split = sym (append-nil (files_asked asked all.bytes));
             got = λ other t. ap world.out.contents same ∙ all.shelved.put t;
             cut = λ is. cc (is);
           });
@@ -342,7 +346,7 @@ module _ {S D O : Type 0} (world : World S D O) (asked : ReceiveQuery) where
               all.shelved.disk_count (put.kept ∙ all.shelved.out_count);
           ends = λ initial before begun.
               let so_far = all.shelved.shelved initial [] before begun in
-              let files = files_of_bytes asked.mend asked.input all.bytes in
+              let files = files_asked asked all.bytes in
               let none = none_waits initial before so_far.settled.on_disk
               (λ t. (
                 sums_line sums,
@@ -365,7 +369,7 @@ module _ {S D O : Type 0} (world : World S D O) (asked : ReceiveQuery) where
             reason = all.ends.reason;
             got = λ t.
                 let lines = shelved_lines (length (kept_by shelf).way.entries)
-                (files_of_bytes asked.mend asked.input all.bytes) in
+                (files_asked asked all.bytes) in
                 put.put (all.shelved.tell.by_out.told t) ∙ ap (λ (l : List ℕ). l ++ sums_line sums)
                 (all.shelved.put t)
                 ∙ append_assoc (world.out.contents w.out) lines (sums_line sums)

@@ -242,7 +242,8 @@ module _ {D O : Type 0} (disk : DiskOf D)
       settled_now : IsSettledOn initial (placed_files (done ++ noted ∷ [])) disk shelf' d'
       settled_now =
           subst (λ (l : List Placed). IsSettledOn initial l disk shelf' d') (sym (placed-append done (noted ∷ [])))
-          (settled_on disk leaves_contents counts_now (placed_files done) placed is_item shelf shelf' d d' number appends.adds
+          (settled_on disk leaves_contents counts_now (placed_files done) placed is_item shelf shelf' d d' number
+          appends.adds
           initial so_far.settled)
 
       run : EachImageSince disk d d' (StandsWithEither initial (placed_files done) placed)

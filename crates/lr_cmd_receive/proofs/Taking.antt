@@ -182,7 +182,8 @@ module _ {S D O : Type 0} (source : SourceOf S) (disk : DiskOf D) (out : SinkOf 
     {s s' : S} {before now : Shelver D O} (begun : ShelverTook (outlets_of disk out) before [] before) where
   -- all files were shelved
   received_all : (workers : ℕ) (sums : ReceiveCounts)
-      → TakesAll (course_of source (ShelverTook (outlets_of disk out)) input limit (leeway_for input workers)) sums.totals
+      → TakesAll (course_of source (ShelverTook (outlets_of disk out)) input limit (leeway_for input workers))
+      sums.totals
       (lent s before) (lent s' now)
       → sums.counts ≡ now.counts
       → ReadsAll (world_of source disk out) (receive_query (mend_of before) input workers limit) sums
@@ -214,7 +215,8 @@ module _ {S D O : Type 0} (source : SourceOf S) (disk : DiskOf D) (out : SinkOf 
       let first = files_first (mend_of before) input some.bytes some.passed some.rest some.split in
       let timely : (initial : InitialShelf) (start : Outlets D O)
       → ShelvesSoFar (outlets_of disk out) initial [] start (shelf_in before.shelf.now (lent_to before))
-      → FewWait (outlets_of disk out) (run_of (receive_query (mend_of before) input workers limit) initial some.bytes) start
+      → FewWait (outlets_of disk out) (run_of (receive_query (mend_of before) input workers limit) initial some.bytes)
+      start
       (lent_to now) =
       λ initial start so_far. record {
         worked = outcomes_of_arrivals halted.worked;
@@ -252,10 +254,11 @@ module _ {S D O : Type 0} (source : SourceOf S) (disk : DiskOf D) (out : SinkOf 
         files = files_of_arrivals (mend_of before) some.passed;
         early = stopped;
         first = λ line symbols told few calm.
-            let later = some.first line symbols told few calm in
+            let later = some.begins line symbols told few calm in
             files_first (mend_of before) input (some.bytes ++ source.left s') some.passed later.0 later.1;
         timely = timely;
-        in_time = λ initial start so_far. worked_in_time source (receive_query (mend_of before) input workers limit) some.bytes s s'
+        in_time = λ initial start so_far. worked_in_time source (receive_query (mend_of before) input workers limit)
+            some.bytes s s'
             (outlets_of disk out) initial start (lent_to now) some.passed some.rest halted.worked halted.late
             some.split
             halted.split halted.one (timely initial start so_far) refl some.in_time;
@@ -264,7 +267,8 @@ module _ {S D O : Type 0} (source : SourceOf S) (disk : DiskOf D) (out : SinkOf 
   -- the same, where an image has at most `mend` fillers
   module _ (mend : ℕ) (most : mend_of before ≡ mend) where
     pub read_all : (workers : ℕ) (sums : ReceiveCounts)
-        → TakesAll (course_of source (ShelverTook (outlets_of disk out)) input limit (leeway_for input workers)) sums.totals
+        → TakesAll (course_of source (ShelverTook (outlets_of disk out)) input limit (leeway_for input workers))
+        sums.totals
         (lent s before) (lent s' now)
         → sums.counts ≡ now.counts
         → ReadsAll (world_of source disk out) (receive_query mend input workers limit) sums

@@ -19,10 +19,9 @@ use Rattle.lr_reading.proofs.Coming.{come_within, outcomes_are, outcomes_counted
 use Rattle.lr_reading.proofs.Fronts.{front_of}
 use Rattle.lr_shelf.specs.InitialShelves.{InitialShelf}
 use Rattle.lr_vc.specs.Runs.{AreChannelFrames}
-use Rattle.lr_cmd_receive.specs.Inputs.{files_of_bytes}
 use Rattle.lr_cmd_receive.specs.Noted.{NotedFile, noted_of_outcomes, noted_where}
 use Rattle.lr_cmd_receive.proofs.Noted.{noted_more}
-use Rattle.lr_cmd_receive.specs.Receive.{AreInTime, AreWorked, PutsNoFileOff, ReceiveQuery}
+use Rattle.lr_cmd_receive.specs.Receive.{AreInTime, AreWorked, PutsNoFileOff, ReceiveQuery, files_asked}
 use Rattle.lr_cmd_receive.specs.Reception.{FewWait, FilesComeInTime, run_of}
 use Rattle.lr_cmd_receive.specs.Shelving.{AreAcknowledged}
 use Rattle.lr_cmd_receive.proofs.Acknowledging.{acknowledged_first}
@@ -33,7 +32,7 @@ module _ {D O : Type 0} (world : OutletsOf D O) (initial : InitialShelf) (asked 
   -- the first outcomes, where no more of them are worked through
   pub acknowledged_front : (worked others : List Outcome) → outcomes_of_bytes asked.input bytes ≡ worked ++ others
       → length worked ≤ length few.worked
-      → AreAcknowledged world initial (files_of_bytes asked.mend asked.input bytes)
+      → AreAcknowledged world initial (files_asked asked bytes)
       (noted_of_outcomes asked.mend worked) w w'
   acknowledged_front worked others split le =
       let between = drop (length worked) few.worked in
@@ -44,21 +43,25 @@ module _ {D O : Type 0} (world : OutletsOf D O) (initial : InitialShelf) (asked 
       (all_frames_whole asked.input bytes)) in
       let more = go_on asked.mend worked between
       (subst (λ (l : List Outcome). AreChannelFrames (frames_of_outcomes l)) (sym front) frames) in
-      acknowledged_first world initial (noted_of_outcomes asked.mend worked) (map (noted_where asked.mend) more.more_marked)
+      acknowledged_first world initial (noted_of_outcomes asked.mend worked)
+      (map (noted_where asked.mend) more.more_marked)
       (subst (λ (l : List NotedFile). AreAcknowledged world initial
-      (files_of_bytes asked.mend asked.input bytes) l w w')
-      (ap (noted_of_outcomes asked.mend) (sym front) ∙ noted_more asked.mend worked between more.more_marked more.marked)
+      (files_asked asked bytes) l w w')
+      (ap (noted_of_outcomes asked.mend) (sym front)
+      ∙ noted_more asked.mend worked between more.more_marked more.marked)
       few.acknowledged)
 
   front_worked : (count : ℕ) → count ≤ length few.worked
       → AreWorked world (run_of asked initial bytes) w w' bytes count
   front_worked count le =
-      acknowledged_front (take count (outcomes_of_bytes asked.input bytes)) (drop count (outcomes_of_bytes asked.input bytes))
+      acknowledged_front (take count (outcomes_of_bytes asked.input bytes))
+      (drop count (outcomes_of_bytes asked.input bytes))
       (sym (take-append-drop count (outcomes_of_bytes asked.input bytes)))
       (omega (arith, length-take count (outcomes_of_bytes asked.input bytes), le))
 
   -- and where that many come after them
-  pub acknowledged_before : (count : ℕ) → HaveCome asked.input 0 bytes (count + (leeway_for asked.input asked.workers).at_end)
+  pub acknowledged_before : (count : ℕ)
+      → HaveCome asked.input 0 bytes (count + (leeway_for asked.input asked.workers).at_end)
       → AreWorked world (run_of asked initial bytes) w w' bytes count
   acknowledged_before count come = front_worked count (omega (
     arith,
@@ -85,40 +88,44 @@ outcomes_first input bytes count = sym (take-map (λ (a : Arrival). a.outcome) c
 module _ {S : Type 0} (source : SourceOf S) (asked : ReceiveQuery) (bytes : List ℕ)
     (s s' : S) where
   -- the files of what had been taken then come first
-  pub all_come_first : WhenLastAsked source (ComeInTime asked.input (leeway_for asked.input asked.workers) 0 (arrivals_of asked.input bytes)) bytes s s'
-      → WhenLastAsked source (FilesComeInTime asked (files_of_bytes asked.mend asked.input bytes)) bytes s s'
-  all_come_first = when_too source (ComeInTime asked.input (leeway_for asked.input asked.workers) 0 (arrivals_of asked.input bytes))
-      (FilesComeInTime asked (files_of_bytes asked.mend asked.input bytes)) bytes s s' come
+  pub all_come_first : WhenLastAsked source
+      (ComeInTime asked.input (leeway_for asked.input asked.workers) 0 (arrivals_of asked.input bytes)) bytes s s'
+      → WhenLastAsked source (FilesComeInTime asked (files_asked asked bytes)) bytes s s'
+  all_come_first = when_too source
+      (ComeInTime asked.input (leeway_for asked.input asked.workers) 0 (arrivals_of asked.input bytes))
+      (FilesComeInTime asked (files_asked asked bytes)) bytes s s' come
     where
       come : (given : List ℕ) (pieces : List (List ℕ))
           → ComeInTime asked.input (leeway_for asked.input asked.workers) 0 (arrivals_of asked.input bytes) given pieces
-          → FilesComeInTime asked (files_of_bytes asked.mend asked.input bytes) given pieces
+          → FilesComeInTime asked (files_asked asked bytes) given pieces
       come given pieces due count few wait have =
           let then = due count few wait have in
-          let files = files_first asked.mend asked.input bytes (take count (arrivals_of asked.input given)) then.0 then.1 in (
+          let files = files_first asked.mend asked.input bytes (take count (arrivals_of asked.input given)) then.0
+          then.1 in (
             files.0,
-            files.1 ∙ ap (λ (l : List Outcome). noted_of_outcomes asked.mend l ++ files.0) (outcomes_first asked.input given count),
+            files.1 ∙ ap (λ (l : List Outcome). noted_of_outcomes asked.mend l ++ files.0)
+                (outcomes_first asked.input given count),
           )
 
   module _ {D O : Type 0} (world : OutletsOf D O) (initial : InitialShelf) (w w' : Outlets D O) where
     -- they are acknowledged, where all files are
-    pub all_in_time : AreAcknowledged world initial (files_of_bytes asked.mend asked.input bytes)
-        (files_of_bytes asked.mend asked.input bytes) w w'
-        → WhenLastAsked source (FilesComeInTime asked (files_of_bytes asked.mend asked.input bytes)) bytes s s'
+    pub all_in_time : AreAcknowledged world initial (files_asked asked bytes)
+        (files_asked asked bytes) w w'
+        → WhenLastAsked source (FilesComeInTime asked (files_asked asked bytes)) bytes s s'
         → WhenLastAsked source (AreInTime world (run_of asked initial bytes) w w')
         bytes s s'
-    all_in_time all = when_too source (FilesComeInTime asked (files_of_bytes asked.mend asked.input bytes))
+    all_in_time all = when_too source (FilesComeInTime asked (files_asked asked bytes))
         (AreInTime world (run_of asked initial bytes) w w') bytes s s' known
       where
         known : (given : List ℕ) (pieces : List (List ℕ))
-            → FilesComeInTime asked (files_of_bytes asked.mend asked.input bytes) given pieces
+            → FilesComeInTime asked (files_asked asked bytes) given pieces
             → AreInTime world (run_of asked initial bytes) w w' given pieces
         known given pieces due count few wait have =
             let first = due count few wait have in
             acknowledged_first world initial (noted_of_outcomes asked.mend (take count
             (outcomes_of_bytes asked.input given))) first.0
             (subst (λ (l : List NotedFile). AreAcknowledged world initial
-            (files_of_bytes asked.mend asked.input bytes) l w
+            (files_asked asked bytes) l w
             w') first.1 all)
 
     -- and where those of all arrivals passed are, but for the last one
@@ -126,7 +133,8 @@ module _ {S : Type 0} (source : SourceOf S) (asked : ReceiveQuery) (bytes : List
         (parts : passed ≡ done ++ late) (one : length late ≤ 1)
         (few_wait : FewWait world (run_of asked initial bytes) w w')
         (is : few_wait.worked ≡ outcomes_of_arrivals done) where
-      known_before : (given : List ℕ) (pieces : List (List ℕ)) → ComeInTime asked.input (leeway_for asked.input asked.workers) 1 passed given pieces
+      known_before : (given : List ℕ) (pieces : List (List ℕ))
+          → ComeInTime asked.input (leeway_for asked.input asked.workers) 1 passed given pieces
           → AreInTime world (run_of asked initial bytes) w w' given pieces
       known_before given pieces due count few wait have =
           let first : List Arrival = take count (arrivals_of asked.input given) in
@@ -135,7 +143,8 @@ module _ {S : Type 0} (source : SourceOf S) (asked : ReceiveQuery) (bytes : List
           ≡ take count (outcomes_of_bytes asked.input given) ++ outcomes_of_arrivals (then.0 ++ rest) =
           outcomes_are asked.input bytes ∙ ap outcomes_of_arrivals (split ∙ ap (λ (l : List Arrival). l ++ rest) then.1
           ∙ append_assoc first then.0 rest) ∙ map-append (λ (a : Arrival). a.outcome) first (then.0 ++ rest)
-          ∙ ap (λ (l : List Outcome). l ++ outcomes_of_arrivals (then.0 ++ rest)) (outcomes_first asked.input given count) in
+          ∙ ap (λ (l : List Outcome). l ++ outcomes_of_arrivals (then.0 ++ rest))
+          (outcomes_first asked.input given count) in
           acknowledged_front world initial asked bytes w w' few_wait
           (take count (outcomes_of_bytes asked.input given)) (outcomes_of_arrivals (then.0 ++ rest)) all (omega (
             arith,
@@ -150,7 +159,8 @@ module _ {S : Type 0} (source : SourceOf S) (asked : ReceiveQuery) (bytes : List
             one,
           ))
 
-      pub worked_in_time : WhenLastAsked source (ComeInTime asked.input (leeway_for asked.input asked.workers) 1 passed) bytes s s'
+      pub worked_in_time : WhenLastAsked source
+          (ComeInTime asked.input (leeway_for asked.input asked.workers) 1 passed) bytes s s'
           → WhenLastAsked source (AreInTime world (run_of asked initial bytes) w w')
           bytes s s'
       worked_in_time = when_too source (ComeInTime asked.input (leeway_for asked.input asked.workers) 1 passed)

@@ -192,13 +192,13 @@ module _ {D : Type 0} (disk : DiskOf D) (symbols : List ℕ) (d1 : D)
             → HoldsStill start done disk d' → HoldsTrialPart disk symbols 0 d'
         holds_front told done rest is durable = record {
           contents = stands_for_part symbols files later split 0 (disk.contents d1) (disk.contents d')
-          (empty told).stands (record {
-            first = done;
-            rest = rest;
-            split = is;
-            enough = omega arith;
-            stands = durable.stands;
-          });
+              (empty told).stands (record {
+                first = done;
+                rest = rest;
+                split = is;
+                enough = omega arith;
+                stands = durable.stands;
+              });
           images = durable.durable;
         }
 
@@ -289,7 +289,8 @@ module _ {D : Type 0} (disk : DiskOf D) (symbols : List ℕ) (d1 : D)
             → FillEnds disk symbols c d1 d'
         stopped_ends (Failed Disk) why kind = tt
         stopped_ends NoMemory why kind = λ told.
-            let w = why told in holds_front (placed_files some.files) come_first.0 come_first.1 told (placed_files w.done)
+            let w = why told in holds_front (placed_files some.files) come_first.0 come_first.1 told
+            (placed_files w.done)
             (placed_files w.rest) (placed_split w.done w.rest w.split) w.durable
         stopped_ends (Refused (NotAShelf at)) why kind = λ told. absurd (why told)
         stopped_ends (Refused (Capacity needed most)) why kind = λ told.
@@ -404,9 +405,11 @@ module _ {D : Type 0} (disk : DiskOf D) (symbols : List ℕ) (d1 : D)
 
       -- ---- for either answer
       pub stream_ends : (workers : ℕ) (shelf' : Shelf) (answer : Result ReceiveCounts Cause)
-          → IfOk answer (λ sums. ReadsAll (world_of source disk out) (receive_query 0 (Symbols STANDARD) workers limit) sums
+          → IfOk answer (λ sums. ReadsAll (world_of source disk out)
+          (receive_query 0 (Symbols STANDARD) workers limit) sums
           (shelf_in shelf (outside s d2 o)) (shelf_in shelf' (outside s' d' o')))
-          → IfErr answer (λ cause. ReadsSome (world_of source disk out) (receive_query 0 (Symbols STANDARD) workers limit)
+          → IfErr answer (λ cause. ReadsSome (world_of source disk out)
+          (receive_query 0 (Symbols STANDARD) workers limit)
           cause (shelf_in shelf (outside s d2 o)) (outside s' d' o'))
           → (Rose (source.faults s) (source.faults s') → ⊥)
           → end_of (with_files [] (trial_files symbols)) ≤ trial_capacity

@@ -26,13 +26,12 @@ use Rattle.lr_cmd_receive.proofs.Causing.{first_later, first_refused}
 use Rattle.lr_cmd_receive.proofs.Changing.{no_change}
 use Rattle.lr_causes.specs.Counts.{CountsTell}
 use Rattle.lr_cmd_receive.specs.First.{SourceBesides}
-use Rattle.lr_cmd_receive.specs.Inputs.{files_of_bytes}
 use Rattle.lr_cmd_receive.specs.Noted.{NotedFile, placed_files}
 use Rattle.lr_shelf.specs.InitialShelves.{InitialShelf, HoldsStill, IsSettledOn, StandsWith}
 use Rattle.lr_shelf.specs.InitialShelves.{LeavesPrefixes, initial_shelf}
 use Rattle.lr_cmd_receive.specs.Onto.{ChangesFor, ChangesImagesFor, IsFullWith}
 use Rattle.lr_cmd_receive.specs.Shelved.{MayStop, ShelvesSoFar, shelf_in}
-use Rattle.lr_cmd_receive.specs.Receive.{Receives, IsWorkDone, EndsWork, IsUntouched, StopsEarly}
+use Rattle.lr_cmd_receive.specs.Receive.{Receives, IsWorkDone, EndsWork, IsUntouched, StopsEarly, files_asked}
 use Rattle.lr_cmd_receive.specs.Receive.{PutsNoFileOff, ReceiveQuery, ReceiveRun}
 use Rattle.lr_cmd_receive.specs.Reception.{EndsRun, run_of}
 use Rattle.lr_cmd_receive.specs.Shelving.{StopsBy}
@@ -74,7 +73,7 @@ module _ {S D O : Type 0} (world : World S D O) (asked : ReceiveQuery) (w : Outs
     loading = still_left world.disk initial w.disk d1 (loads.only_read.unwritten told) stands only
 
     none : (cause : Cause) → MayStop cause
-        → StopsBy (world_outlets world) initial (files_of_bytes asked.mend asked.input []) cause (outlets_in w)
+        → StopsBy (world_outlets world) initial (files_asked asked []) cause (outlets_in w)
         (outlets_in read_only)
         → CountsTell SourceBesides cause (counts_in world w) (counts_in world read_only)
         → Receives world (run_of asked initial []) cause w read_only
@@ -169,11 +168,11 @@ module _ {S D O : Type 0} (world : World S D O) (asked : ReceiveQuery) (w : Outs
     };
     writes = record {
       outside = λ way told is.
-          no_change way (placed_files (files_of_bytes asked.mend asked.input [])) (world.disk.contents w.disk)
+          no_change way (placed_files (files_asked asked [])) (world.disk.contents w.disk)
           (world.disk.contents d1)
           (loads.only_read.unwritten told).contents;
       outside_any_moment = λ way told is only.
-          loading_images way (placed_files (files_of_bytes asked.mend asked.input [])) told only;
+          loading_images way (placed_files (files_asked asked [])) told only;
     };
   }
 
@@ -298,10 +297,10 @@ module _ {S D O : Type 0} (world : World S D O) (asked : ReceiveQuery) (w : Outs
           }
 
       changes_run : (way : Way) → world.disk.tells w.disk → IsWay (world.disk.contents w.disk) way
-          → ChangesFor way (placed_files (files_of_bytes asked.mend asked.input run.bytes)) (world.disk.contents w.disk)
+          → ChangesFor way (placed_files (files_asked asked run.bytes)) (world.disk.contents w.disk)
           (world.disk.contents w'.disk)
       changes_run way told has =
-          let files = placed_files (files_of_bytes asked.mend asked.input run.bytes) in
+          let files = placed_files (files_asked asked run.bytes) in
           subst (λ (x : Way). ChangesFor x files (world.disk.contents w.disk) (world.disk.contents w'.disk))
           ((has_one_way (world.disk.contents w.disk)).way (kept_by shelf).way way (is_way told) has)
           (subst (λ (l : List ℕ). ChangesFor (kept_by shelf).way files l (world.disk.contents w'.disk))
@@ -309,9 +308,9 @@ module _ {S D O : Type 0} (world : World S D O) (asked : ReceiveQuery) (w : Outs
 
       images_run : (way : Way) → world.disk.tells w.disk → IsWay (world.disk.contents w.disk) way
           → NothingPending world.disk w.disk
-          → ChangesImagesFor world.disk way (placed_files (files_of_bytes asked.mend asked.input run.bytes)) w.disk w'.disk
+          → ChangesImagesFor world.disk way (placed_files (files_asked asked run.bytes)) w.disk w'.disk
       images_run way told has only =
-          let files = placed_files (files_of_bytes asked.mend asked.input run.bytes) in
+          let files = placed_files (files_asked asked run.bytes) in
           let read = loads.only_read.unwritten told in
           let old = world.disk.contents w.disk in
           let loading = loading_images way files told only in
@@ -351,7 +350,7 @@ module _ {S D O : Type 0} (world : World S D O) (asked : ReceiveQuery) (w : Outs
         };
         capacity = record {
           full = λ way needed most named told has.
-              subst (λ (x : Way). IsFullWith x needed most (placed_files (files_of_bytes asked.mend asked.input run.bytes)))
+              subst (λ (x : Way). IsFullWith x needed most (placed_files (files_asked asked run.bytes)))
               ((has_one_way (world.disk.contents w.disk)).way (kept_by shelf).way way (is_way told) has)
               (run.over.full needed most named);
           nothing_fits = λ needed most named tells empty.

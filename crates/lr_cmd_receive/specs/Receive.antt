@@ -198,8 +198,8 @@ pub record IsUntouched {S D O : Type 0} (world : World S D O) (w w' : Outside S 
 
 module _ {S D O : Type 0} (world : World S D O) where
   module _ (asked : ReceiveQuery) (bytes : List ℕ) (cause : Cause) where
-    -- What comes of a disk that tells its contents and has a way, whatever its records hold: that of a shelf is one, and
-    -- `FilesComeOntoShelves` says that a shelf of items gets them so.
+    -- What comes of a disk that tells its contents and has a way, whatever its records hold. The bytes of a shelf have
+    -- one, and `FilesComeOntoShelves` says that a shelf of items which gets files so is one of the items and the files.
     pub record ComesOnto (w w' : Outside S D O) : Type 0 where
       -- with nothing pending
       pub way : (way : Way) → world.disk.tells w.disk → IsWay (world.disk.contents w.disk) way

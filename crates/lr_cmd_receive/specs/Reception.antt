@@ -100,16 +100,16 @@ module _ {S D O : Type 0} (world : World S D O) (asked : ReceiveQuery) (bytes : 
         (shelved_lines number (files_asked asked bytes) ++ receive_last asked.mend asked.input bytes stop) w.out w'.out
 
   -- it isn't: what `out` got
-  abbrev pub PutsLines : Type 0
-  PutsLines = StopsInLines world.out cause number (files_asked asked bytes) w.out w'.out
+  abbrev pub StopsPutting : Type 0
+  StopsPutting = StopsInLines world.out cause number (files_asked asked bytes) w.out w'.out
       ⊎ ((cause ≡ Failed Output) × CutsLast world asked bytes number w w')
 
 -- what a run leaves after what was there: all files where the work is done, or else as many as it came to
 pub record EndsOnto {S D O : Type 0} (world : World S D O) (run : Run) (cause : Cause) (w w' : Outside S D O) : Type 0
-    where
-      pub stands : IsWorkDone cause
-          → HoldsStill run.initial (placed_files (files_asked run.asked run.bytes)) world.disk w'.disk
-      pub stops : (IsWorkDone cause → ⊥) → StopsOnto world run cause w w'
+  where
+    pub stands : IsWorkDone cause
+        → HoldsStill run.initial (placed_files (files_asked run.asked run.bytes)) world.disk w'.disk
+    pub stops : (IsWorkDone cause → ⊥) → StopsOnto world run cause w w'
 
 module _ {S D O : Type 0} (world : World S D O) (asked : ReceiveQuery) where
   -- the input ended, and all its files are shelved, whatever shelf they came onto
@@ -164,7 +164,7 @@ module _ {S D O : Type 0} (world : World S D O) (asked : ReceiveQuery) where
     pub over : EndsOver cause (placed_files (files_asked asked bytes)) (shelf_in old.shelf (outlets_in old.lent))
         (outlets_in w')
     pub ended : IsWorkDone cause → DoesWork world asked bytes (length (way_in old).entries) cause old.lent w'
-    pub stopped : (IsWorkDone cause → ⊥) → PutsLines world asked bytes (length (way_in old).entries) cause old.lent w'
+    pub stopped : (IsWorkDone cause → ⊥) → StopsPutting world asked bytes (length (way_in old).entries) cause old.lent w'
     pub outside : world.disk.tells old.lent.disk
         → ChangesFor (way_in old) (placed_files (files_asked asked bytes)) (world.disk.contents old.lent.disk)
         (world.disk.contents w'.disk)

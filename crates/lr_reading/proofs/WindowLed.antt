@@ -204,7 +204,7 @@ module _ {S C Cause : Type 0} (source : SourceOf S) (consumer : ConsumerOf C Cau
             (drop kept at.given) refl)) (cases_lt count n);
         in_time = in_time_on n 1 (omega (arith, past)) enough;
         stops = stops;
-        first = λ other symbols told few calm.
+        begins = λ other symbols told few calm.
             cut n (arrivals_of (Symbols line) (at.bytes ++ source.left before.source.now))
             (first_of told few calm before.intake.now.feed.lock.finished refl);
       }

@@ -68,7 +68,8 @@ pub record HaveGivenAll (line : LineCode) (first : List Arrival) (bytes : List �
   pub split : arrivals_of (Symbols line) bytes ≡ first ++ rest
   pub all : (count : ℕ) → HaveCome (Symbols line) (WINDOW_END - FRAME_SYMBOLS) bytes count → count ≤ length first
 
--- the last one of these frames ends less than a window before the end of these bytes, of which all the frames come
+-- the last one of these frames ends less than a marker and a window before the end of these bytes, of which all the
+-- frames come
 pub record EndsInFrame (line : LineCode) (given : List Frame) (bytes : List ℕ) : Type 0 where
   pub before : List Frame
   pub frame : Frame

@@ -12,8 +12,8 @@ use Rattle.lr_forms.specs.declared.forms.Input.{Input}
 use Rattle.lr_forms.specs.declared.forms.Input.TheVariants.{Symbols}
 use Rattle.lr_reading.specs.declared.read_counts.ReadCounts.{ReadCounts}
 
--- These bytes were taken of an input of this form, which was to give no more than this. No more are to be had, and this is
--- what the totals tell of them.
+-- These bytes were taken of an input of this form, which was to give no more than the limit. No more are to be had, and
+-- this is what the totals tell of them.
 pub record ReadsInput {S : Type 0} (source : SourceOf S) (input : Input) (limit : ℕ) (bytes : List ℕ)
     (totals : ReadCounts) (s s' : S) : Type 0 where
   pub read : IsRead source limit bytes s s'
@@ -79,7 +79,7 @@ module _ {S C : Type 0} (course : Course S C) where
         now.source
     pub stops : (c : C) → course.took c [] before.consumer → stopped c passed cause now.consumer
     -- of symbols they are the first ones of all that the source gives, where it had not failed nor reached the limit
-    pub first : (line : LineCode) → course.input ≡ Symbols line → course.source.tells before.source
+    pub begins : (line : LineCode) → course.input ≡ Symbols line → course.source.tells before.source
         → length bytes < course.limit
         → (Rose (course.source.faults before.source) (course.source.faults now.source) → ⊥)
         → (later : List Arrival)

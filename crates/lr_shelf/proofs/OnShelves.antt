@@ -85,20 +85,21 @@ still_fits capacity items files fits (inr room) =
     )
 
 module _ (capacity : ℕ) (items : List Item) (old bytes : List ℕ) (files : List Placed)
-    (stood : StandsForShelf old capacity items) (stands : StandsWith (shelf_before capacity items old) files bytes) where
-  before : take (end_of items - 1) old ≡ front (header_bytes stood.version capacity) (map item_bytes items)
-  before =
-      ap (take (end_of items - 1)) stood.shut.split
-      ∙ take_at (front (header_bytes stood.version capacity) (map item_bytes items))
-      (stood.shut.gate ∷ stood.shut.rest) (end_of items - 1)
-      (omega (arith, length-front stood.version capacity items))
+    (stood : StandsForShelf old capacity items) (stands : StandsWith (shelf_before capacity items old) files bytes)
+  where
+    before : take (end_of items - 1) old ≡ front (header_bytes stood.version capacity) (map item_bytes items)
+    before =
+        ap (take (end_of items - 1)) stood.shut.split
+        ∙ take_at (front (header_bytes stood.version capacity) (map item_bytes items))
+        (stood.shut.gate ∷ stood.shut.rest) (end_of items - 1)
+        (omega (arith, length-front stood.version capacity items))
 
-  shut : IsClosedAfter (front (header_bytes stood.version capacity) (map item_bytes (with_files items files))) bytes
-  shut =
-      subst (λ (l : List ℕ). IsClosedAfter l bytes)
-      (stands.front ∙ ap (λ (l : List ℕ). l ++ flat_map gated_file files) before
-      ∙ front_is stood.version capacity files items)
-      (shut_last bytes (way_with_files files (way_of capacity items)) stands.is_way)
+    shut : IsClosedAfter (front (header_bytes stood.version capacity) (map item_bytes (with_files items files))) bytes
+    shut =
+        subst (λ (l : List ℕ). IsClosedAfter l bytes)
+        (stands.front ∙ ap (λ (l : List ℕ). l ++ flat_map gated_file files) before
+        ∙ front_is stood.version capacity files items)
+        (shut_last bytes (way_with_files files (way_of capacity items)) stands.is_way)
 
 come_onto : (capacity : ℕ) (items : List Item) (old bytes : List ℕ) (files : List Placed)
     → StandsForShelf old capacity items → StandsWith (shelf_before capacity items old) files bytes

@@ -121,7 +121,8 @@ module _ (bytes : List ℕ) (way : Way) (has : IsWay bytes way) where
 
 module _ (way : Way) (old : List ℕ) (files : List Placed) (placed : Placed) (is : IsItem (item_for placed)) where
   module _ (bytes : List ℕ) (has : StandsWith (initial_shelf way old) files bytes) (c : List ℕ) where
-    without_one : IsClosedAfter (take ((way_with_files files way).end - 1) bytes) c → StandsWith (initial_shelf way old) files c
+    without_one : IsClosedAfter (take ((way_with_files files way).end - 1) bytes) c
+        → StandsWith (initial_shelf way old) files c
     without_one shut = record {
       is_way = way_still bytes (way_with_files files way) has.is_way c shut;
       room = has.room;

@@ -33,7 +33,7 @@ pub data Effect : Type 0 where
   -- the mission files of the bytes read come onto the shelf
   Shelves : (asked : ReceiveQuery) → Effect
   -- the mission files of the recordings of a bundle come onto the shelf, symbols of this line code
-  Merges : (line : LineCode) → Effect
+  MergesRecordings : (line : LineCode) → Effect
   -- this is asked of the entries of the shelf
   Asks : (query : Query) → Effect
   -- the images of all files are put
@@ -56,7 +56,7 @@ effect_of (Frames EachFrame most) = PutsLines (frames_printed most)
 effect_of (Frames EachPacket most) = PutsLines (packets_printed most)
 effect_of (Intake Decode input workers most) = PutsLines (decode_printed input workers most)
 effect_of (Intake (Receive mend) input workers most) = Shelves (receive_query mend input workers most)
-effect_of (Downlinks line) = Merges line
+effect_of (Downlinks line) = MergesRecordings line
 effect_of (OnFile Extract number) = Asks (extract_query number)
 effect_of (OnShelf ListAll) = Asks list_query
 effect_of (OnFile Show number) = Asks (show_query number)

@@ -35,7 +35,7 @@ use Rattle.lr_reading.specs.Inputs.{outcomes_of_bytes}
 use Rattle.lr_reading.specs.Readers.{HaveCome}
 use Rattle.lr_reading.specs.Reading.{HaveGiven}
 use Rattle.lr_shelf.proofs.InitialPrefixes.{begun_way}
-use Rattle.lr_shelf.specs.InitialShelves.{OfWay}
+use Rattle.lr_shelf.specs.InitialShelves.{initial_shelf}
 use Rattle.lr_shelf_format.specs.Way.{IsWay, Way}
 use Rattle.lr_causes.specs.Outside.{outside, world_of}
 use Rattle.lr_causes.specs.declared.cause.Cause.{Cause}
@@ -132,7 +132,7 @@ module _ {D O : Type 0} (disk : DiskOf D) (out : SinkOf O) (line : LineCode) (me
       ++ (shelved_lines (length way.entries)
       (noted_of_outcomes mend (take count (outcomes_of_bytes (Symbols line) first))) ++ text))
   lines_there =
-      let keeps = run.onto.keeps_up (OfWay way (disk.contents d)) told (begun_way way (disk.contents d) is_way)
+      let keeps = run.onto.keeps_up (initial_shelf way (disk.contents d)) told (begun_way way (disk.contents d) is_way)
       (λ none. only) in
       ⊎_elim (λ none. absurd (omega (arith, past, fresh, ap bytes_moved none.1)))
       (λ last.
