@@ -11,18 +11,17 @@ use Rattle.lr_disk.specs.Reads.{IsOnlyRead}
 use Rattle.lr_disk.specs.declared.disk.Disk.{Ghosts as DiskOf}
 use Rattle.lr_disk.specs.Pending.{EachImageSince, NothingPending}
 use Rattle.lr_disk.proofs.Moments.{joined, weaker}
-use Rattle.lr_shelf_format.specs.Items.{Item}
 use Rattle.lr_shelf_format.specs.Way.{IsWay, Way}
 use Rattle.lr_shelf_format.proofs.WayLemmas.{has_one_way}
 use Rattle.lr_shelf.specs.Adding.{StaysOutside}
 use Rattle.lr_shelf.specs.Adds.{last_gate}
 use Rattle.lr_shelf.specs.Append.{item_for}
 use Rattle.lr_shelf.specs.Prefixes.{way_with_files}
-use Rattle.lr_shelf.specs.InitialShelves.{InitialShelf, OfItems, OfWay, IsSettledOn, LeavesPrefixes, StandsWith}
+use Rattle.lr_shelf.specs.InitialShelves.{InitialShelf, IsSettledOn, LeavesPrefixes, StandsWith, initial_shelf}
 use Rattle.lr_shelf.specs.Kept.{kept_by, shelf_on}
-use Rattle.lr_shelf.specs.Shelf.{HasEitherWay, IsDurable}
+use Rattle.lr_shelf.specs.Shelf.{HasEitherWay}
 use Rattle.lr_shelf.specs.declared.shelf.Shelf.{Shelf}
-use Rattle.lr_shelf.proofs.InitialPrefixes.{begun_items, begun_way, front_none, fronts_of_more, settled_on_items}
+use Rattle.lr_shelf.proofs.InitialPrefixes.{begun_way, front_none, fronts_of_more}
 use Rattle.lr_shelf.proofs.InitialPrefixes.{still_holds, still_left}
 use Rattle.lr_causes.specs.Causes.{IsCaused, counts}
 use Rattle.lr_causes.specs.Counts.{CountsTell}
@@ -67,25 +66,18 @@ module _ {D : Type 0} (disk : DiskOf D) (shelf : Shelf) (d d1 : D) (ready : IsRe
       weaker disk.moment disk.left_since d d1 _ _ (front_none initial)
       (still_left disk initial d d1 (ready.only_read.unwritten t) stands only)
 
-  on_items : (capacity : ℕ) (items : List Item) → disk.tells d → IsDurable disk capacity items d
-      → BeginsOn (OfItems capacity items)
-  on_items capacity items t durable = record {
-    settled = settled_on_items disk capacity items shelf d1 (ready.settled capacity items t durable);
-    alone = alone_on (OfItems capacity items) t (begun_items capacity items (disk.contents d) durable.stands)
-        durable.durable;
-  }
-
   on_way : (way : Way) → disk.tells d → IsWay (disk.contents d) way → NothingPending disk d
-      → BeginsOn (OfWay way (disk.contents d))
+      → BeginsOn (initial_shelf way (disk.contents d))
   on_way way t is only =
       let begun = begun_way way (disk.contents d) is in
       record {
         settled = record {
           told = ready.tell.told t;
           kept = record { way = kept_way way t is; working = ready.works };
-          on_disk = still_holds disk (OfWay way (disk.contents d)) d d1 (ready.only_read.unwritten t) begun only;
+          on_disk =
+              still_holds disk (initial_shelf way (disk.contents d)) d d1 (ready.only_read.unwritten t) begun only;
         };
-        alone = alone_on (OfWay way (disk.contents d)) t begun only;
+        alone = alone_on (initial_shelf way (disk.contents d)) t begun only;
       }
 
   module _ (d' : D) (files : List Placed) (initial : InitialShelf) (begins : BeginsOn initial) where
@@ -158,11 +150,8 @@ module _ {D : Type 0} (disk : DiskOf D) (count : ℕ) (files : ℕ → List Plac
     outside_any_moment = λ way t is only.
         as_found_since disk shelf d d1 d' ready (merge files order) way t is only
         (has.outside_any_moment (ready.tell.told t) (ready.synced t));
-    onto_shelf = λ capacity items t durable.
-        added_on disk shelf d d1 ready d' (merge files order) (OfItems capacity items)
-        (on_items disk shelf d d1 ready capacity items t durable) has;
     onto_way = λ way t is only.
-        added_on disk shelf d d1 ready d' (merge files order) (OfWay way (disk.contents d))
+        added_on disk shelf d d1 ready d' (merge files order) (initial_shelf way (disk.contents d))
         (on_way disk shelf d d1 ready way t is only) has;
   }
 
@@ -182,11 +171,8 @@ module _ {D : Type 0} (disk : DiskOf D) (count : ℕ) (files : ℕ → List Plac
     outside_any_moment = λ way t is only.
         as_found_since disk shelf d d1 d' ready (merge files order ++ breaks.placed ∷ []) way t is only
         (breaks.appended.outside_any_moment (ready.tell.told t) (ready.synced t));
-    onto_shelf = λ capacity items t durable.
-        broken_on disk shelf d d1 ready d' (merge files order) (OfItems capacity items)
-        (on_items disk shelf d d1 ready capacity items t durable) breaks.placed breaks.appended;
     onto_way = λ way t is only.
-        broken_on disk shelf d d1 ready d' (merge files order) (OfWay way (disk.contents d))
+        broken_on disk shelf d d1 ready d' (merge files order) (initial_shelf way (disk.contents d))
         (on_way disk shelf d d1 ready way t is only) breaks.placed breaks.appended;
   }
 

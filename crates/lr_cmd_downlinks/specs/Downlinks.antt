@@ -28,7 +28,7 @@ use Rattle.lr_downlinks.specs.Receipts.{HasFileAt, receipt_at}
 use Rattle.lr_downlinks.specs.Room.{AllFit}
 use Rattle.lr_downlinks.specs.Runs.{Merging, NextDoesNotFitBy, merged_files, merging}
 use Rattle.lr_shelf.specs.Prefixes.{way_with_files}
-use Rattle.lr_shelf.specs.InitialShelves.{OfItems, OfWay, InitialShelf, HoldsEitherOn, HoldsStill, LeavesPrefixes}
+use Rattle.lr_shelf.specs.InitialShelves.{InitialShelf, HoldsEitherOn, HoldsStill, LeavesPrefixes, initial_shelf}
 use Rattle.lr_downlinks.specs.Streams.{files_of_downlink}
 use Rattle.lr_cmd_downlinks.specs.Lines.{receipt_lines, last_line}
 use Rattle.lr_cmd_downlinks.specs.Taking.{AreAllTaken, HasFlaw, most_taken}
@@ -74,7 +74,7 @@ pub record BreaksOn {D : Type 0} (disk : DiskOf D) (broken : Broken) (d d' : D) 
 module _ {D : Type 0} (disk : DiskOf D) (merged : Merging) (d d' : D) where
   -- the files that the order names were put onto the shelf
   pub record AddsMerged : Type 0 where
-    -- over every disk that has a way, whatever its items hold
+    -- over every disk that has a way, whatever its records hold
     pub way : (way : Way) → disk.tells d → IsWay (disk.contents d) way
         → IsWay (disk.contents d') (way_with_files (merged_files merged) way)
         × NothingPending disk d'
@@ -86,14 +86,11 @@ module _ {D : Type 0} (disk : DiskOf D) (merged : Merging) (d d' : D) where
         → NothingPending disk d
         → EachImageSince disk d d'
         (StaysOutside (way.end - 1) (way_with_files (merged_files merged) way).end (disk.contents d))
-    -- over a shelf of these items, and over every disk that has a way, whatever its records hold, with nothing
-    -- pending
-    pub onto_shelf : (capacity : ℕ) (items : List Item) → disk.tells d
-        → IsDurable disk capacity items d
-        → AddsAllOn disk (merged_files merged) d d' (OfItems capacity items)
+    -- Where nothing is pending, the files stand after the bytes that were there. The bytes of a shelf of items have
+    -- such a way, and `FilesComeOntoShelves` says what the files make of it: a shelf of its items and of the files.
     pub onto_way : (way : Way) → disk.tells d → IsWay (disk.contents d) way
         → NothingPending disk d
-        → AddsAllOn disk (merged_files merged) d d' (OfWay way (disk.contents d))
+        → AddsAllOn disk (merged_files merged) d d' (initial_shelf way (disk.contents d))
 
   -- so they were, and the disk failed in the next file of some downlink: that is there, or it isn't
   pub record BreaksMerging : Type 0 where
@@ -111,12 +108,10 @@ module _ {D : Type 0} (disk : DiskOf D) (merged : Merging) (d d' : D) where
         → EachImageSince disk d d'
         (StaysOutside (way.end - 1) (way_with_files (merged_files merged ++ placed ∷ []) way).end
         (disk.contents d))
-    pub onto_shelf : (capacity : ℕ) (items : List Item) → disk.tells d
-        → IsDurable disk capacity items d
-        → BreaksOn disk (broken_at (merged_files merged) placed) d d' (OfItems capacity items)
+    -- where nothing is pending; over a shelf of items too, as in `AddsMerged`
     pub onto_way : (way : Way) → disk.tells d → IsWay (disk.contents d) way
         → NothingPending disk d
-        → BreaksOn disk (broken_at (merged_files merged) placed) d d' (OfWay way (disk.contents d))
+        → BreaksOn disk (broken_at (merged_files merged) placed) d d' (initial_shelf way (disk.contents d))
 
   -- what becomes of the disk, for each cause
   abbrev pub LeavesMerged : Cause → Type 0
@@ -183,6 +178,7 @@ module _ {S D O : Type 0} (world : World S D O) where
           w.disk
           w'.disk cause
       pub base : ℕ
+      -- the entries of the way of the bytes, of which there is one at most (`HasOneWay`)
       pub base_is : (way : Way) → world.disk.tells w.disk → IsWay (world.disk.contents w.disk) way
           → base ≡ length way.entries
       pub receipts : HaveReceipts world.disk (merging (length streams) (files_of_downlink read.line streams) order)

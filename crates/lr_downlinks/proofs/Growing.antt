@@ -7,7 +7,7 @@ use Rattle.lr_bits.proofs.Telling.{tells_both, tells_still}
 use Rattle.lr_disk.specs.declared.disk.Disk.{Ghosts as DiskOf}
 use Rattle.lr_disk.specs.Pending.{EachImageSince, NothingPending}
 use Rattle.lr_disk.proofs.Moments.{joined, stays, weaker}
-use Rattle.lr_shelf_format.specs.Items.{head_of_item}
+use Rattle.lr_shelf_format.specs.Items.{IsItem, head_of_item}
 use Rattle.lr_shelf_format.specs.Way.{IsWay, Way, way_with}
 use Rattle.lr_shelf.specs.Adding.{StaysOutside}
 use Rattle.lr_shelf.specs.Adds.{Adds, last_gate, new_end}
@@ -107,6 +107,7 @@ module _ {D : Type 0} (disk : DiskOf D) (shelf : Shelf) (d : D) (files : List Pl
   module _ (leaves_contents : (d : D) → disk.tells d → disk.may_leave d (disk.contents d))
       (counts_now : (d : D) (t : ℕ) (c : List ℕ) → disk.tells d → t ≤ disk.moment d → disk.may_leave d c
       → disk.left_since d t c)
+      (is_item : IsItem (item_for placed))
       (keeps : (initial : InitialShelf) → IsSettledOn initial [] disk shelf d → KeepsOn initial files old) where
     settled_mid : (initial : InitialShelf) → IsSettledOn initial [] disk shelf d
         → IsSettledOn initial files disk old mid
@@ -122,7 +123,7 @@ module _ {D : Type 0} (disk : DiskOf D) (shelf : Shelf) (d : D) (files : List Pl
         → LeavesPrefixes disk initial (files ++ placed ∷ []) d d'
     fronts_moments result adds initial s =
         fronts_with disk initial d mid d' files (so_far.on initial s).1 placed
-        (moments_on disk leaves_contents counts_now files placed old new mid d' result adds initial
+        (moments_on disk leaves_contents counts_now files placed is_item old new mid d' result adds initial
         (settled_mid initial s))
 
     -- the file was appended
@@ -148,7 +149,7 @@ module _ {D : Type 0} (disk : DiskOf D) (shelf : Shelf) (d : D) (files : List Pl
           way = λ t keeps. subst (IsWay (disk.contents d')) way
               (adds.on_way.way (so_far.tell.told t) (keeps_way t keeps));
           on = λ initial s. (
-            (settled_on disk leaves_contents counts_now files placed old new mid d' answer adds initial
+            (settled_on disk leaves_contents counts_now files placed is_item old new mid d' answer adds initial
                 (settled_mid initial s)).on_disk,
             fronts_moments (Ok answer) adds initial s,
           );
@@ -171,9 +172,11 @@ module _ {D : Type 0} (disk : DiskOf D) (shelf : Shelf) (d : D) (files : List Pl
           let before = settled_mid initial s in (
             record {
               contents =
-                  now_on disk leaves_contents counts_now files placed old new mid d' (Err Disk) adds initial before;
+                  now_on disk leaves_contents counts_now files placed is_item old new mid d' (Err Disk) adds initial
+                  before;
               images =
-                  left_on disk leaves_contents counts_now files placed old new mid d' (Err Disk) adds initial before;
+                  left_on disk leaves_contents counts_now files placed is_item old new mid d' (Err Disk) adds initial
+                  before;
             },
             fronts_moments (Err Disk) adds initial s,
           );

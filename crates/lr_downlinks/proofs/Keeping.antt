@@ -5,7 +5,7 @@ use Rattle.std.specs.Prelude.{slice_get, OnOk, OnErr, IfErr}
 use Rattle.std.specs.Borrow.{GName}
 use Rattle.lr_bits.specs.declared.placed.Placed.{Placed}
 use Rattle.lr_disk.specs.declared.disk.Disk.{Ghosts as DiskOf}
-use Rattle.lr_shelf_format.specs.Items.{head_of_item}
+use Rattle.lr_shelf_format.specs.Items.{IsItem, head_of_item}
 use Rattle.lr_shelf_format.specs.Way.{Way, way_with}
 use Rattle.lr_shelf.specs.Append.{Appends, item_for}
 use Rattle.lr_shelf.specs.Kept.{KeptShelf, kept_by, kept_with, shelf_on}
@@ -120,7 +120,7 @@ module _ {D : Type 0} (disk : DiskOf D)
       way_is : (kept_by old.shelf).way ≡ way_with_files (merged start old.order) (kept_by shelf).way
       way_is = book_way start shelf over.same_way old keeps.files
 
-    module _ (downlink : ℕ) (placed : Placed)
+    module _ (downlink : ℕ) (placed : Placed) (is_item : IsItem (item_for placed))
         (next : IsNextOf (length start.streams) (files_in start) old.order downlink placed) where
       more : merged start (old.order ++ downlink ∷ []) ≡ merged start old.order ++ placed ∷ []
       more = merge-push (length start.streams) (files_in start) old.order downlink placed next
@@ -180,7 +180,7 @@ module _ {D : Type 0} (disk : DiskOf D)
           appended_more shelf d over was =
               subst (λ (l : List Placed). HasAppended disk (shelf_on shelf d) l d') (sym more)
               (one_appended disk shelf d (merged start old.order) placed old.shelf shelf' old.disk d'
-              (way_is shelf d over) was.appended leaves_contents counts_now was.keeps number a.adds)
+              (way_is shelf d over) was.appended leaves_contents counts_now is_item was.keeps number a.adds)
 
       -- the disk failed in it
       pub broke_kept : (shelf' : Shelf) (d' : D) → Appends disk placed (shelf_of_book old)
@@ -211,7 +211,7 @@ module _ {D : Type 0} (disk : DiskOf D)
                     placed = placed;
                     next = next;
                     appended = one_failed disk shelf d (merged start old.order) placed old.shelf shelf' old.disk d'
-                        (way_is shelf d over) was.appended leaves_contents counts_now was.keeps a.adds;
+                        (way_is shelf d over) was.appended leaves_contents counts_now is_item was.keeps a.adds;
                   };
                 };
           }

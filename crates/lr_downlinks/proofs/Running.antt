@@ -12,12 +12,11 @@ use Rattle.lr_disk.specs.declared.disk.Disk.{Ghosts as DiskOf}
 use Rattle.lr_shelf_format.specs.Items.{Item}
 use Rattle.lr_shelf_format.specs.ShelfBytes.{StandsForShelf, entries_of}
 use Rattle.lr_shelf.specs.Append.{item_for}
-use Rattle.lr_shelf.specs.InitialShelves.{OfItems, StandsWithEither, with_files}
+use Rattle.lr_shelf.specs.InitialShelves.{InitialShelf, StandsWith, StandsWithEither, shelf_before, with_files}
 use Rattle.lr_shelf.specs.Kept.{KeptShelf, kept_by, shelf_on}
 use Rattle.lr_shelf.specs.Shelf.{IsSettled}
 use Rattle.lr_shelf.specs.declared.shelf.Shelf.{Shelf}
-use Rattle.lr_shelf.proofs.InitialPrefixes.{settled_on_items}
-use Rattle.lr_shelf.proofs.InitialShelves.{entries_of-append, entries_of-files}
+use Rattle.lr_shelf.proofs.OnShelves.{entries_of-append, entries_of-files, files_come_onto_shelves, settled_before}
 use Rattle.lr_shelf.proofs.ItemsKept.{entry_count_is}
 use Rattle.lr_downlinks.specs.Books.{BeginsRun, BookView, Broke, IsBookOf, KeepsBook, StandsOver}
 use Rattle.lr_downlinks.specs.Books.{BookWorks, WorksOrBroke}
@@ -50,14 +49,15 @@ get_before [] ys k x e = absurd (cc (e))
 get_before (y ∷ xs) ys zero x e = e
 get_before (y ∷ xs) ys (suc k) x e = get_before xs ys k x e
 
-module _ (capacity : ℕ) (items : List Item) (at : ℕ) (placed : Placed) where
+module _ (capacity : ℕ) (items : List Item) (old : List ℕ) (stood : StandsForShelf old capacity items) (at : ℕ)
+    (placed : Placed) where
   -- the entry of a file that was put after some items
   has_file_at : (files : List Placed) → slice_get files at ≡ Some placed → (bytes : List ℕ)
-      → StandsForShelf bytes capacity (with_files items files)
+      → StandsWith (shelf_before capacity items old) files bytes
       → HasFileAt capacity (length (entries_of items) + at) placed bytes
   has_file_at files is bytes stands = record {
     items = with_files items files;
-    stands = stands;
+    stands = files_come_onto_shelves.some capacity items old bytes files stood stands;
     there =
         ap (λ (l : List Item). slice_get l (length (entries_of items) + at))
         (entries_of-append items (map item_for files)
@@ -69,7 +69,7 @@ module _ (capacity : ℕ) (items : List Item) (at : ℕ) (placed : Placed) where
 
   -- also where one more came
   has_file_either : (files : List Placed) → slice_get files at ≡ Some placed → (more : Placed) (bytes : List ℕ)
-      → StandsWithEither (OfItems capacity items) files more bytes
+      → StandsWithEither (shelf_before capacity items old) files more bytes
       → HasFileAt capacity (length (entries_of items) + at) placed bytes
   has_file_either files is more bytes (inl stands) = has_file_at files is bytes stands
   has_file_either files is more bytes (inr stands) =
@@ -160,6 +160,9 @@ module _ {D : Type 0} (disk : DiskOf D) (handed : Shelf → D → Type 0) (strea
 
     module _ (at : ℕ) (placed : Placed) (is : slice_get (merge files book.order) at ≡ Some placed) (capacity : ℕ)
         (items : List Item) (s : IsSettled disk capacity items shelf d) where
+      abbrev before : InitialShelf
+      before = shelf_before capacity items (disk.contents d)
+
       -- contents and crash images have the file at this number
       abbrev has_entry : ℕ → Type 0
       has_entry number =
@@ -169,22 +172,23 @@ module _ {D : Type 0} (disk : DiskOf D) (handed : Shelf → D → Type 0) (strea
       entry_appended : HasAppended disk (shelf_on shelf d) (merge files book.order) book.disk
           → has_entry (length (entries_of items) + at)
       entry_appended has =
-          let still = (has.on (OfItems capacity items) (settled_on_items disk capacity items shelf d s)).0 in (
-            has_file_at capacity items at placed (merge files book.order) is (disk.contents book.disk) still.stands,
-            λ c image. has_file_at capacity items at placed (merge files book.order) is c
-                (subst (λ (l : List ℕ). StandsForShelf l capacity (with_files items (merge files book.order)))
-                (sym (still.durable c image)) still.stands),
+          let still = (has.on before (settled_before disk capacity items shelf d s)).0 in (
+            has_file_at capacity items (disk.contents d) s.on_disk.stands at placed (merge files book.order) is
+                (disk.contents book.disk) still.stands,
+            λ c image. has_file_at capacity items (disk.contents d) s.on_disk.stands at placed
+                (merge files book.order) is c
+                (subst (StandsWith before (merge files book.order)) (sym (still.durable c image)) still.stands),
           )
 
       entry_by_end : (result : RunEnd) → RunEndsWith begun_as book result → has_entry (length (entries_of items) + at)
       entry_by_end All ends = entry_appended (works ends.0).appended
       entry_by_end Disk ends =
           let has = (broke ends).appended in
-          let either = (has.on (OfItems capacity items) (settled_on_items disk capacity items shelf d s)).0 in (
-            has_file_either capacity items at placed (merge files book.order) is (broke ends).placed
-                (disk.contents book.disk) either.contents,
-            λ c image. has_file_either capacity items at placed (merge files book.order) is (broke ends).placed c
-                (either.images c image),
+          let either = (has.on before (settled_before disk capacity items shelf d s)).0 in (
+            has_file_either capacity items (disk.contents d) s.on_disk.stands at placed (merge files book.order) is
+                (broke ends).placed (disk.contents book.disk) either.contents,
+            λ c image. has_file_either capacity items (disk.contents d) s.on_disk.stands at placed
+                (merge files book.order) is (broke ends).placed c (either.images c image),
           )
       entry_by_end NoMemory ends = entry_appended (works ends).appended
       entry_by_end (Capacity needed most) ends = entry_appended (works ends.0).appended

@@ -37,9 +37,9 @@ invariant_of-self g c =
       disk = c.self.inside.disk.now;
       order = c.self.inside.order;
       failed = c.self.inside.failed;
-    }) c.self.invariant c.args.downlink c.in-Some.placed.now (next_of g c) c.append_file-answer.new.shelf
-    c.append_file-answer.new.disk c.append_file-answer.new.order c.append_file-answer.result
-    c.append_file-answer.ensures)
+    }) c.self.invariant c.args.downlink c.in-Some.placed.now c.is_item.ensures (next_of g c)
+    c.append_file-answer.new.shelf c.append_file-answer.new.disk c.append_file-answer.new.order
+    c.append_file-answer.result c.append_file-answer.ensures)
 
 pub returns-clause-appends : goal.returns-clause-appends
 returns-clause-appends g c =
