@@ -3,7 +3,6 @@ ghost use Rattle.std.specs.Prelude.{◌≡◌, ◌==◌, ◌<◌, ◌+◌, ◌^�
 ghost use Rattle.lr_bits.specs.declared.outcome.Outcome.{Outcome as Outcome'};
 ghost use Rattle.lr_layers.specs.Standing.{MendingLayersStandFor};
 ghost use Rattle.lr_reading.specs.Arrivals.{HasWholeFrame};
-ghost use Rattle.lr_shelf_format.specs.Items.{IsOrigin};
 ghost use Rattle.lr_cmd_receive.specs.Noted.{noted_file, noted_with};
 ghost use Rattle.lr_cmd_receive.specs.Shelved.{
   AddsNotedFiles,
@@ -17,18 +16,13 @@ ghost use Rattle.lr_cmd_receive.specs.Shelved.{
 ghost use Rattle.lr_causes.specs.Outside.{outlets, outlets_of};
 
 use crate::lines::noted_line;
-use lr_bits::{Bytes, NoMemory, Origin, Outcome, Placed};
+use lr_bits::{Bytes, NoMemory, Outcome, Placed};
 use lr_causes::{Cause, put_text};
 use lr_disk::Disk;
 use lr_io::Sink;
 use lr_layers::Layers;
 use lr_refusals::shelf_answer;
-use lr_shelf::Shelf;
-
-/// Says of an origin what its type does: each number has its place in an item.
-fn bound(origin: Origin)
-    ensures { IsOrigin origin }
-{}
+use lr_shelf::{Shelf, is_item};
 
 /// Shelves one file: its line is composed, the file is appended, and then the line is put. The line tells the number of
 /// fillers where that is noted.
@@ -45,9 +39,7 @@ fn shelve<D: Disk, O: Sink>(
         (noted_file placed.now fillers ∷ [])
         (shelf_in shelf.old (outlets disk.old out.old)) (outlets disk.new out.new)) }
 {
-    // What `bytes` says of a file, and its type of an origin, bounds what the item would need.
-    let _ = placed.file.bytes();
-    bound(placed.origin);
+    is_item(&placed.file, placed.origin);
     let alloc = shelf.allocator();
     let mut line = Bytes::new(alloc);
     noted_line(alloc, shelf.len(), &placed.file, fillers, &mut line)?;

@@ -1,6 +1,5 @@
 //! The shelf, its disk, and what came onto it.
 ghost use Rattle.std.specs.Prelude.{◌≡◌, ◌<◌, ◌⊎◌, ◌^◌};
-ghost use Rattle.lr_shelf_format.specs.Items.{IsItem, add_item};
 ghost use Rattle.lr_downlinks.specs.Appending.{
   AppendsFile,
   WantsMemory,
@@ -14,17 +13,10 @@ ghost use Rattle.lr_downlinks.specs.Merge.{times_in_order};
 use crate::order::Order;
 use crate::run_start::RunStart;
 use crate::sizes::MOST_DOWNLINKS;
-use lr_bits::{MissionFile, Origin, Placed};
+use lr_bits::Placed;
 use lr_disk::Disk;
-use lr_shelf::{Shelf, ShelfError};
+use lr_shelf::{Shelf, ShelfError, is_item};
 use std::marker::{Model, PhantomData};
-
-/// A file and its origin make up an item: their types keep that. This does nothing but say so.
-fn is_item(file: &MissionFile, origin: Origin)
-    ensures { IsItem (add_item file.now origin) }
-{
-    let _ = file.bytes();
-}
 
 /// Appends the file to the shelf, and the downlink to the order. The order comes first, so memory for it is asked for
 /// before the shelf may refuse the file.

@@ -26,7 +26,7 @@ returns-in-Err-clause-stopped g c =
     let so = refused c.append.result c.shelf_answer.result c.shelf_answer.ensures c.in-Err.cause c.in-Err.is in
     rw so.2
     (one_refused g.D.Disk g.met.D.Disk.leaves_contents g.met.D.Disk.counts_now g.O.Sink c.args.placed.now
-    (c.bytes.ensures.file, c.bound.ensures) c.args.fillers c.args.shelf.now c.append.new.self c.args.disk.now
+    c.is_item.ensures c.args.fillers c.args.shelf.now c.append.new.self c.args.disk.now
     c.append.new.disk
     c.args.out.now so.0
     (subst (λ (r : Result ℕ ShelfError). Appends g.D.Disk c.args.placed.now
@@ -38,7 +38,7 @@ returns-clause-shelved g c =
     let is : c.as_slice.result.now ≡ line_with c.len.result c.args.placed.now.file c.args.fillers = search rules in
     if_ok_on c.put_text.result c.put_text.ensures.put
     (one_shelved g.D.Disk g.met.D.Disk.leaves_contents g.met.D.Disk.counts_now g.O.Sink c.args.placed.now
-    (c.bytes.ensures.file, c.bound.ensures) c.args.fillers c.args.shelf.now c.append.new.self c.args.disk.now
+    c.is_item.ensures c.args.fillers c.args.shelf.now c.append.new.self c.args.disk.now
     c.append.new.disk c.args.out.now _
     (subst (λ (r : Result ℕ ShelfError). Appends g.D.Disk c.args.placed.now
     (shelf_on c.args.shelf.now c.args.disk.now) (shelf_on c.append.new.self c.append.new.disk) r)
@@ -54,7 +54,7 @@ returns-clause-stopped g c =
     (outlets c.append.new.disk c.put_text.new.out)) (Failed Output) c.put_text.result
     c.put_text.ensures.cause c.put_text.ensures.failed
     (one_cut g.D.Disk g.met.D.Disk.leaves_contents g.met.D.Disk.counts_now g.O.Sink c.args.placed.now
-    (c.bytes.ensures.file, c.bound.ensures) c.args.fillers c.args.shelf.now c.append.new.self c.args.disk.now
+    c.is_item.ensures c.args.fillers c.args.shelf.now c.append.new.self c.args.disk.now
     c.append.new.disk c.args.out.now _
     (subst (λ (r : Result ℕ ShelfError). Appends g.D.Disk c.args.placed.now
     (shelf_on c.args.shelf.now c.args.disk.now) (shelf_on c.append.new.self c.append.new.disk) r)
