@@ -7,8 +7,8 @@ The page lists the spec files that say which files a recording has, and then tho
 frames. Which files these are follows from their `use` lines: a part begins at the files of `PARTS`, and has all that
 these use, directly or through others. The page has to list each of them once, in the first part that reaches it, and no
 other. A file stands after those that it uses. The standards named beside a file stand in that file's own comments. The
-numbers of files and lines, also of the further rows of `WHOLE`, are counted anew; `--write` writes the right ones into
-the page first.
+numbers of files and lines, also of the further rows of `WHOLE`, are counted anew, and so are the definitions that the
+record `RECEIVE` rests on, one by one; `--write` writes the right numbers into the page first.
 
 It prints a line for each fault, and ends with status 1 where there is one.
 """
@@ -38,7 +38,15 @@ WHOLE = {
     "All that the top call promises": ["crates/lr_station/specs/Runs.antt"],
 }
 
+# the record of all that `receive` promises, and the crate of mending, whose definitions are counted apart
+RECEIVE = ("crates/lr_cmd_receive/specs/Receive.antt", "ReceiveRun")
+MENDING = "lr_mend"
+
 USE = re.compile(r"^\s*(?:pub )?use Rattle\.(lr_\w+)\.specs\.([\w.]+)", re.M)
+IMPORT = re.compile(r"^\s*(?:pub )?use Rattle\.(lr_\w+)\.specs\.([\w.]+?)\.\{([^}]*)\}", re.M)
+DEFINITION = re.compile(r"^\s*(?:(?:abbrev|unfoldable) (?:pub )?|(?:pub )?(?:record|data) )([^\s:(){}]+)")
+WORD = re.compile(r"[^\s(){}.,;:λ→×⊎≡=]+")
+COUNT_LINE = re.compile(r"^By name, .*$", re.M)
 STANDARD = re.compile(r"CCSDS|CGMS")
 LISTED = re.compile(r"^\| `(crates/[^`]+)` \|(.*)$")
 SOURCES_ROW = re.compile(r"^\| `(lr_\w+)` \| ((?:`\w+\.rt`(?:, )?)+) \|")
@@ -140,6 +148,53 @@ def look_at_standards(rows, faults):
             faults += [f"{path} doesn't name '{it.strip()}'" for it in cell.split(";") if it.strip() not in comments]
 
 
+class Definitions:
+    """The definitions of spec files by their names, and which of them each one names."""
+
+    def __init__(self):
+        self.files = {}
+
+    def of_file(self, path):
+        """The words of each definition of a file, and where each name that it imports is defined."""
+        if path not in self.files:
+            text = re.sub(r"--[^\n]*", "", text_of(path))
+            imports = {}
+            for crate, module, names in IMPORT.findall(text):
+                source = file_of(crate, module.split("."), "specs", ".antt")
+                for name, _, alias in (it.strip().partition(" as ") for it in names.split(",")):
+                    if source and name:
+                        imports[alias.strip() or name] = (source, name)
+            words, name = {}, None
+            for line in IMPORT.sub("", text).splitlines():
+                found = DEFINITION.match(line)
+                if found or line.strip().startswith("module "):
+                    name = found and found[1]
+                if name:
+                    words.setdefault(name, set()).update(WORD.findall(line))
+            self.files[path] = words, imports
+        return self.files[path]
+
+    def under(self, start, without):
+        """All that this one rests on, itself among them, but for those of a crate and what these alone reach."""
+        found, left = set(), [start]
+        while left:
+            path, name = one = left.pop()
+            if one in found or path.startswith(f"crates/{without}/"):
+                continue
+            words, imports = self.of_file(path)
+            if name in words:
+                found.add(one)
+                left += [imports.get(word, (path, word)) for word in words[name] if word in imports or word in words]
+        return found
+
+
+def count_line():
+    """The page's line of what `receive` rests on."""
+    definitions = Definitions()
+    whole, plain = (len(definitions.under(RECEIVE, without)) for without in ("-", MENDING))
+    return f"By name, `receive` rests on {plain} definitions, and on {whole} with those of mending."
+
+
 def size_of(paths):
     return len(paths), sum(len(text_of(path).splitlines()) for path in paths)
 
@@ -156,6 +211,11 @@ def look_at_sizes(lines, sizes, faults):
         if told.get(name) != row_of(name, sizes):
             faults.append(f"'{SIZES_HEADING}' has to have the row: {row_of(name, sizes)}")
     faults += [f"'{SIZES_HEADING}' has a row of its own: {name}" for name in told if name not in sizes]
+
+
+def look_at_count(faults):
+    if [count_line()] != COUNT_LINE.findall(text_of(PAGE)):
+        faults.append(f"'{SIZES_HEADING}' has to have the line: {count_line()}")
 
 
 def all_sizes():
@@ -182,6 +242,7 @@ def look_at_page(sizes):
         compare(heading, set(), [path for path, _ in rows_of(sections[heading])], faults)
     look_at_order(order, faults)
     look_at_sizes(sections.get(SIZES_HEADING, []), sizes, faults)
+    look_at_count(faults)
     return faults, len(order)
 
 
@@ -193,7 +254,7 @@ def write_sizes(sizes):
         if found and found[1] in sizes:
             lines[number] = row_of(found[1], sizes)
     with open(os.path.join(TOP, PAGE), "w", encoding="utf-8") as it:
-        it.write("\n".join(lines) + "\n")
+        it.write(COUNT_LINE.sub(count_line(), "\n".join(lines)) + "\n")
 
 
 true_sizes = all_sizes()

@@ -55,6 +55,7 @@ changed() {
 changed lritstation 's/^  --workers W  /  --workers X  /' "lritstation: the help gives decode"
 changed lritstation 's/^  repack N BLOCK  /  recode N BLOCK  /' "lritstation: the help has the commands"
 changed packaging/words.sh 's/ | trial)/)/' "packaging/words.sh: the commands that may write are"
+changed docs/DEFINITIONS.md 's/ rests on [0-9]* definitions/ rests on 1 definitions/' "has to have the line: By name"
 changed CHANGELOG.md 's/The [0-9]* tests stand/The 1 tests stand/' "CHANGELOG.md: the tests are"
 changed CHANGELOG.md 's/^- [0-9]* edits must fail/- 1 edits must fail/' "CHANGELOG.md: the edits are"
 
