@@ -48,7 +48,7 @@ module _ {S O : Type 0} (world : PipeOf S O) (printed : Printed) where
     pub out_count : world.out.faults w'.out ≡ world.out.faults w.out
 
   -- No line of these bytes was put off. However the call ended, the lines are put of all but the last few, and of those
-  -- after which so many symbols or bytes were taken. And no line waited for the source, as `AreSoInTime` says
+  -- that as many symbols or bytes follow as `ahead` says. And no line waited for the source, as `AreSoInTime` says
   pub record PutsNoLineOff (bytes : List ℕ) (w w' : Pipe S O) : Type 0 where
     pub timely : (count : ℕ) → HaveCome printed.input 0 bytes (count + printed.leeway.at_end)
         → GotFirst world.out (printed.first bytes count) w.out w'.out

@@ -72,7 +72,7 @@ module _ {D O : Type 0} (world : OutletsOf D O) (initial : InitialShelf) (asked 
     few.few,
   ))
 
-  -- and where so many symbols or bytes do
+  -- and where as many symbols or bytes follow as `ahead` says
   pub acknowledged_long : (count : ℕ) → HaveCome asked.input (leeway_for asked.input asked.workers).ahead bytes count
       → AreWorked world (run_of asked initial bytes) w w' bytes count
   acknowledged_long count come = front_worked count (few.close count come)

@@ -155,7 +155,7 @@ module _ {S D O : Type 0} (world : World S D O) (run : Run) where
         → HaveCome run.asked.input 0 run.bytes
         (count + (leeway_for run.asked.input run.asked.workers).at_end)
         → AreWorked (world_outlets world) run (outlets_in w) (outlets_in w') run.bytes count
-    -- So are those after which the symbols or bytes were taken that this names.
+    -- So are those that as many symbols or bytes follow as `ahead` says.
     pub timely_in_bytes : (count : ℕ)
         → HaveCome run.asked.input (leeway_for run.asked.input run.asked.workers).ahead run.bytes count
         → AreWorked (world_outlets world) run (outlets_in w) (outlets_in w') run.bytes count

@@ -60,8 +60,8 @@ pub record EndsOver {D O : Type 0} (cause : Cause) (files : List Placed) (old : 
 abbrev pub run_of : ReceiveQuery → InitialShelf → List ℕ → Run
 run_of asked initial bytes = record { asked = asked; initial = initial; bytes = bytes }
 
--- of the outcomes of the bytes taken all but the last few are worked through, and so are all after which the symbols or
--- bytes came that this names: their files are acknowledged
+-- of the outcomes of the bytes taken all but the last few are worked through, and so are all that as many symbols or
+-- bytes follow as `ahead` says: their files are acknowledged
 pub record FewWait {D O : Type 0} (world : OutletsOf D O) (run : Run) (w w' : Outlets D O) : Type 0 where
   pub worked : List Outcome
   pub late : List Outcome
@@ -164,7 +164,8 @@ module _ {S D O : Type 0} (world : World S D O) (asked : ReceiveQuery) where
     pub over : EndsOver cause (placed_files (files_asked asked bytes)) (shelf_in old.shelf (outlets_in old.lent))
         (outlets_in w')
     pub ended : IsWorkDone cause → DoesWork world asked bytes (length (way_in old).entries) cause old.lent w'
-    pub stopped : (IsWorkDone cause → ⊥) → StopsPutting world asked bytes (length (way_in old).entries) cause old.lent w'
+    pub stopped : (IsWorkDone cause → ⊥)
+        → StopsPutting world asked bytes (length (way_in old).entries) cause old.lent w'
     pub outside : world.disk.tells old.lent.disk
         → ChangesFor (way_in old) (placed_files (files_asked asked bytes)) (world.disk.contents old.lent.disk)
         (world.disk.contents w'.disk)
