@@ -46,7 +46,7 @@ class SocketInput {
   }
 
   /**
-   * The next bytes, at most so many, once there are some; none at the end.
+   * The next bytes, `most` at most, once there are some; none at the end.
    * @param {number} most
    */
   async take(most) {
