@@ -16,10 +16,22 @@ pub record PutsPrefix (bytes old new : List ℕ) : Type 0 where
   pub put : new ≡ old ++ front
 
 module _ {O : Type 0} (out : SinkOf O) where
+  -- `out` got this text
+  abbrev pub GotText : List ℕ → O → O → Type 0
+  GotText text o o' = out.tells o → out.contents o' ≡ out.contents o ++ text
+
+  -- it got this text first, and perhaps more
+  abbrev pub GotFirst : List ℕ → O → O → Type 0
+  GotFirst text o o' = out.tells o → (more : List ℕ) × (out.contents o' ≡ out.contents o ++ (text ++ more))
+
+  -- it got this text, and then a prefix of the line that isn't all of it
+  abbrev pub GotPart : List ℕ → List ℕ → O → O → Type 0
+  GotPart text line o o' = out.tells o → PutsPart line (out.contents o ++ text) (out.contents o')
+
   -- the text was put
   pub record Puts (text : List ℕ) (o o' : O) : Type 0 where
     pub tell : KeepsTelling (out.tells o) (out.tells o')
-    pub put : out.tells o → out.contents o' ≡ out.contents o ++ text
+    pub put : GotText text o o'
     pub kept : out.faults o' ≡ out.faults o
 
   -- a prefix of the text was put that isn't all of it

@@ -18,8 +18,8 @@ use Rattle.lr_causes.specs.declared.cause.Party.TheVariants.{Output, Source}
 use Rattle.lr_causes.proofs.Joining.{puts_both}
 use Rattle.lr_causes.specs.Outside.{Pipe, PipeOf, pipe, pipe_of}
 use Rattle.lr_forms.specs.declared.forms.Input.{Input}
-use Rattle.lr_cmd_print.specs.Printing.{AreSoInTime, GotFirst, Printed, Prints, PrintsAll, PutsNoLineOff}
-use Rattle.lr_causes.specs.Puts.{Puts, PutStops}
+use Rattle.lr_cmd_print.specs.Printing.{AreSoInTime, Printed, Prints, PrintsAll, PutsNoLineOff}
+use Rattle.lr_causes.specs.Puts.{GotFirst, PutStops, Puts}
 use Rattle.lr_cmd_print.specs.Progress.{IsFirstOf, LinesComeFirst, LinesStop, PutsButLast, PutsSome}
 use Rattle.lr_reading.specs.Arrivals.{arrivals_of}
 use Rattle.lr_reading.specs.Readers.{HaveCome, Leeway, MayWait}

@@ -10,14 +10,10 @@ use Rattle.lr_causes.specs.declared.cause.Cause.{Cause}
 use Rattle.lr_causes.specs.declared.cause.Cause.TheVariants.{Done, Failed, NoMemory}
 use Rattle.lr_causes.specs.declared.cause.Party.TheVariants.{Source, Output}
 use Rattle.lr_causes.specs.Outside.{Pipe, PipeOf}
-use Rattle.lr_causes.specs.Puts.{PutsPrefix}
+use Rattle.lr_causes.specs.Puts.{GotFirst, PutsPrefix}
 use Rattle.lr_io.specs.declared.sink.Sink.{Ghosts as SinkOf}
 use Rattle.lr_reading.specs.Readers.{HaveCome, Leeway, MayWait}
 use Rattle.lr_reading.specs.Reading.{IsRead, EndsFor, WhenLastAsked}
-
--- `out` got this text first, and perhaps more
-abbrev pub GotFirst : {O : Type 0} → SinkOf O → List ℕ → O → O → Type 0
-GotFirst out text o o' = out.tells o → (more : List ℕ) × (out.contents o' ≡ out.contents o ++ (text ++ more))
 
 -- What a command prints: its lines of the bytes read, those of the first windows, blocks or frames of them, and its
 -- last line. And what it reads for that: the form of its input, how many frames may wait, and the most bytes

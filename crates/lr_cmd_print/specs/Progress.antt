@@ -5,8 +5,8 @@ use Rattle.lr_io.specs.declared.sink.Sink.{Ghosts as SinkOf}
 use Rattle.lr_causes.specs.declared.cause.Cause.{Cause}
 use Rattle.lr_causes.specs.declared.cause.Cause.TheVariants.{Failed, NoMemory}
 use Rattle.lr_causes.specs.declared.cause.Party.TheVariants.{Output}
-use Rattle.lr_causes.specs.Puts.{PutFails, PutsPrefix}
-use Rattle.lr_cmd_print.specs.Printing.{AreSoInTime, GotFirst, Printed}
+use Rattle.lr_causes.specs.Puts.{GotFirst, PutFails, PutsPrefix}
+use Rattle.lr_cmd_print.specs.Printing.{AreSoInTime, Printed}
 use Rattle.lr_io.specs.declared.source.Source.{Ghosts as SourceOf}
 use Rattle.lr_reading.specs.Reading.{WhenLastAsked}
 use Rattle.lr_reading.specs.declared.arrival.Arrival.{Arrival}

@@ -26,12 +26,12 @@ use Rattle.lr_causes.specs.declared.cause.Cause.{Cause}
 use Rattle.lr_causes.specs.declared.cause.Cause.TheVariants.{Failed, NoMemory}
 use Rattle.lr_causes.specs.declared.cause.Party.TheVariants.{Disk, Output}
 use Rattle.lr_refusals.specs.Errors.{cause_of}
-use Rattle.lr_causes.specs.Puts.{Puts, PutFails}
+use Rattle.lr_causes.specs.Puts.{GotText, PutFails, Puts}
 use Rattle.lr_shelf.specs.InitialShelves.{InitialShelf, IsSettledOn, StandsWith, StandsWithEither}
 use Rattle.lr_shelf.specs.Prefixes.{HasRoom, end_with}
 use Rattle.lr_cmd_receive.specs.Onto.{ChangesImagesFor}
 use Rattle.lr_cmd_receive.specs.Noted.{NotedFile, noted_file, placed_files}
-use Rattle.lr_cmd_receive.specs.Shelving.{GotText, StopsInLines, noted_line, shelved_lines}
+use Rattle.lr_cmd_receive.specs.Shelving.{StopsInLines, noted_line, shelved_lines}
 use Rattle.lr_cmd_receive.specs.Shelved.{ShelvesSoFar, HasShelved, StopsShelving, Grows, GrowsNoMore, shelf_in}
 use Rattle.lr_cmd_receive.proofs.Acknowledging.{either_acknowledged, lines_alone, still_acknowledged}
 use Rattle.lr_cmd_receive.proofs.Causing.{append_works, first_out, first_refused, first_stays}

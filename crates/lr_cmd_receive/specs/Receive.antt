@@ -10,6 +10,7 @@ use Rattle.lr_forms.specs.declared.forms.Stop.{Stop}
 use Rattle.lr_forms.specs.declared.forms.Stop.TheVariants.{End, Limit, Fault}
 use Rattle.lr_catalog.specs.declared.summary.Summary.TheVariants.{Receive}
 use Rattle.lr_catalog.specs.Summaries.{summary_line}
+use Rattle.lr_causes.specs.Puts.{GotPart, GotText}
 use Rattle.lr_causes.specs.declared.cause.Cause.{Cause}
 use Rattle.lr_causes.specs.declared.cause.Cause.TheVariants.{Done, Failed, NoMemory, Refused}
 use Rattle.lr_causes.specs.declared.cause.Party.TheVariants.{Source, Disk, Output}
@@ -28,7 +29,7 @@ use Rattle.lr_cmd_receive.specs.Onto.{ChangesFor, IsFullWith}
 use Rattle.lr_reading.specs.Reading.{IsRead, EndsFor, WhenLastAsked}
 use Rattle.lr_shelf.specs.Prefixes.{HasRoom}
 use Rattle.lr_shelf.specs.InitialShelves.{InitialShelf, HoldsPrefix, HoldsStill, LeavesPrefixes, StandsWith}
-use Rattle.lr_cmd_receive.specs.Shelving.{AreAcknowledged, GotText, GotPart, StopsBy, StopsInLines, shelved_lines}
+use Rattle.lr_cmd_receive.specs.Shelving.{AreAcknowledged, StopsBy, StopsInLines, shelved_lines}
 
 -- how many bytes were taken, how many outcomes there are, of each kind, how many good packets and files, and how many
 -- bytes are left

@@ -28,11 +28,11 @@ use Rattle.lr_shelf.specs.InitialShelves.{HoldsStill, InitialShelf, LeavesPrefix
 use Rattle.lr_cmd_receive.specs.Onto.{ChangesFor, ChangesImagesFor, IsFullWith}
 use Rattle.lr_reading.specs.Readers.{HaveCome, MayWait, leeway_for}
 use Rattle.lr_reading.specs.Reading.{EndsFor, IsRead, WhenLastAsked}
-use Rattle.lr_causes.specs.Puts.{Puts, PutStops}
+use Rattle.lr_causes.specs.Puts.{GotText, PutStops, Puts}
 use Rattle.lr_cmd_receive.specs.Receive.{AreInTime, CutsLast, IsWorkDone, ReceiveQuery, Run, counts_line}
 use Rattle.lr_cmd_receive.specs.Receive.{files_asked, receive_last}
 use Rattle.lr_cmd_receive.specs.Shelved.{HasShelved, MayStop, ShelfIn, ShelvesSoFar, StopsShelving, shelf_in, way_in}
-use Rattle.lr_cmd_receive.specs.Shelving.{AreAcknowledged, GotText, StopsBy, StopsInLines, shelved_lines}
+use Rattle.lr_cmd_receive.specs.Shelving.{AreAcknowledged, StopsBy, StopsInLines, shelved_lines}
 
 -- the last line of what was read and counted
 abbrev pub sums_line : ReceiveCounts → List ℕ

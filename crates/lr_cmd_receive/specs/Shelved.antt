@@ -11,7 +11,7 @@ use Rattle.lr_causes.specs.declared.cause.Cause.TheVariants.{Failed, NoMemory, R
 use Rattle.lr_causes.specs.declared.cause.Party.TheVariants.{Disk, Output}
 use Rattle.lr_causes.specs.declared.cause.Refusal.TheVariants.{NotAShelf, Capacity}
 use Rattle.lr_causes.specs.Outside.{Outlets, OutletsOf, TellOn, outlet_counts}
-use Rattle.lr_causes.specs.Puts.{Puts}
+use Rattle.lr_causes.specs.Puts.{GotText, Puts}
 use Rattle.lr_causes.specs.Counts.{CountsTell}
 use Rattle.lr_cmd_receive.specs.First.{SourceBesides}
 use Rattle.lr_cmd_receive.specs.Noted.{NotedFile, noted_of_outcomes, placed_files}
@@ -19,7 +19,7 @@ use Rattle.lr_shelf.specs.Adding.{StaysOutside}
 use Rattle.lr_shelf.specs.InitialShelves.{InitialShelf, IsSettledOn, LeavesPrefixes}
 use Rattle.lr_shelf.specs.Prefixes.{HasRoom, end_with}
 use Rattle.lr_cmd_receive.specs.Onto.{ChangesFor, ChangesImagesFor, IsFullWith}
-use Rattle.lr_cmd_receive.specs.Shelving.{shelved_lines, AreAcknowledged, GotText, Stops, StopsInLines}
+use Rattle.lr_cmd_receive.specs.Shelving.{shelved_lines, AreAcknowledged, Stops, StopsInLines}
 
 -- the causes for which shelving may stop, over any disk
 abbrev pub MayStop : Cause → Type 0

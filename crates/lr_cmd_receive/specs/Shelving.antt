@@ -5,9 +5,9 @@ use Rattle.std.specs.List.{concat}
 use Rattle.lr_bits.specs.File.{File, bytes_of, counter_of}
 use Rattle.lr_bits.specs.Sizes.{most_u64}
 use Rattle.lr_io.specs.declared.sink.Sink.{Ghosts as SinkOf}
-use Rattle.lr_io.specs.Pieces.{PutsPart}
 use Rattle.lr_catalog.specs.Files.{shelved_line}
 use Rattle.lr_reading.specs.Lines.{numbered_lines}
+use Rattle.lr_causes.specs.Puts.{GotFirst, GotPart, GotText}
 use Rattle.lr_causes.specs.declared.cause.Cause.{Cause}
 use Rattle.lr_causes.specs.declared.cause.Cause.TheVariants.{Failed, NoMemory, Refused}
 use Rattle.lr_causes.specs.declared.cause.Party.TheVariants.{Disk, Output}
@@ -47,14 +47,6 @@ StandsForOneFileMore initial done rest bytes =
     × StandsWith initial (placed_files (done ++ next ∷ [])) bytes)
 
 module _ {O : Type 0} (out : SinkOf O) where
-  -- `out` got this text
-  abbrev pub GotText : List ℕ → O → O → Type 0
-  GotText text o o' = out.tells o → out.contents o' ≡ out.contents o ++ text
-
-  -- `out` got this text, and then a prefix of the line that isn't all of it
-  abbrev pub GotPart : List ℕ → List ℕ → O → O → Type 0
-  GotPart text line o o' = out.tells o → PutsPart line (out.contents o ++ text) (out.contents o')
-
   -- It got the lines of the files that are done, the first of which has that number, and a part of the line of the next
   -- one.
   pub record CutsLine (number : ℕ) (done rest : List NotedFile) (o o' : O) : Type 0 where
@@ -80,9 +72,7 @@ module _ {D O : Type 0} (world : OutletsOf D O) (initial : InitialShelf) (files 
     pub others : List NotedFile
     pub split : files ≡ first ++ others
     pub held : HoldsPrefix world.disk initial (placed_files files) (length first) w'.disk
-    pub told : world.out.tells w.out → (text : List ℕ)
-        × (world.out.contents w'.out
-        ≡ world.out.contents w.out ++ (shelved_lines (length initial.way.entries) first ++ text))
+    pub told : GotFirst world.out (shelved_lines (length initial.way.entries) first) w.out w'.out
 
   -- the disk failed: these files are acknowledged, and one more may stand there
   pub record DiskStops (w w' : Outlets D O) : Type 0 where
