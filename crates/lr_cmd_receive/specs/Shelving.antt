@@ -53,7 +53,7 @@ module _ {O : Type 0} (out : SinkOf O) where
     pub next : NotedFile
     pub later : List NotedFile
     pub split : rest ≡ next ∷ later
-    pub part : GotPart (shelved_lines number done) (noted_line (number + length done) next) o o'
+    pub part : GotPart out (shelved_lines number done) (noted_line (number + length done) next) o o'
 
   -- Shelving these files, the first of which has that number, stopped for this cause: `out` got the lines of the first
   -- ones, and where it failed a part of the next line.
@@ -61,7 +61,7 @@ module _ {O : Type 0} (out : SinkOf O) where
     pub done : List NotedFile
     pub rest : List NotedFile
     pub split : files ≡ done ++ rest
-    pub got : (cause ≡ Failed Output → ⊥) → GotText (shelved_lines number done) o o'
+    pub got : (cause ≡ Failed Output → ⊥) → GotText out (shelved_lines number done) o o'
     pub cut : cause ≡ Failed Output → CutsLine number done rest o o'
 
 -- these files come onto what was there
