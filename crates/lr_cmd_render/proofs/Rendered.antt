@@ -14,7 +14,8 @@ use Rattle.lr_causes.specs.declared.cause.Refusal.{Refusal}
 use Rattle.lr_causes.specs.declared.cause.Refusal.TheVariants.{BadChecksum, NotAShelf}
 use Rattle.lr_causes.specs.declared.note.Note.{Note}
 use Rattle.lr_cmd_shelf.specs.declared.opened.Opened.{Opened}
-use Rattle.lr_cmd_shelf.specs.Queries.{Answer, AnswersFrom, AnswersOn, IsLooked, IsSeen, EntryView}
+use Rattle.lr_cmd_shelf.specs.Looking.{IsLooked, each_image}
+use Rattle.lr_cmd_shelf.specs.Queries.{Answer, AnswersFrom, AnswersOn, IsSeen, EntryView}
 use Rattle.lr_cmd_shelf.specs.Queries.{Whole, Wrong, Absent, query_over}
 use Rattle.lr_cmd_shelf.specs.Queries.{IsAnswer, done_answer, entry_at}
 use Rattle.lr_cmd_render.specs.Render.{image_text, render_query}
@@ -24,13 +25,13 @@ use Rattle.lr_cmd_shelf.proofs.Answering.{ok_is, ok_or_err, some_or_none}
 
 looked_image : (bytes : List ℕ) (entry : Entry) (opened : Opened) (image : Option (Result Picture ImageFault))
     → opened.image ≡ image → IsLooked true opened.stored.file image
-    → IsSeen (λ stored. true) bytes entry (Some (Whole opened)) → IsTextOf bytes entry (image_text opened.image)
+    → IsSeen each_image bytes entry (Some (Whole opened)) → IsTextOf bytes entry (image_text opened.image)
 looked_image bytes entry opened (Some outcome) is looked seen =
     inr (record { stored = opened.stored; found = seen.0; outcome = outcome; has = looked; is = ap image_text is })
 looked_image bytes entry opened None is looked seen = absurd looked
 
 text_of : (bytes : List ℕ) (way : Way) (number : ℕ) (read : List EntryView) (seen : EntryView) (text : List ℕ)
-    → IsSeen (λ stored. true) bytes (entry_at way number) (Some seen)
+    → IsSeen each_image bytes (entry_at way number) (Some seen)
     → render_query.fate read number seen ≡ Ok text → IsTextOf bytes (entry_at way number) text
 text_of bytes way number read (Whole opened) text seen fate =
     subst (IsTextOf bytes (entry_at way number))

@@ -45,7 +45,7 @@ module _ {D : Type 0} (disk : DiskOf D) (way : Way) (number : ℕ) where
   -- what stands there is refused
   pub record IsRefusedAt (d : D) (refusal : Refusal) : Type 0 where
     pub seen : Option EntryView
-    pub stands : disk.tells d → IsSeen render_query.looks (disk.contents d) (entry_at way number) seen
+    pub stands : disk.tells d → IsSeen render_query.sees (disk.contents d) (entry_at way number) seen
     pub fate : (read : List EntryView) → fate_of render_query way read number seen ≡ Err refusal
 
   -- why the entry was not read

@@ -5,6 +5,7 @@ use Rattle.lr_image.specs.Picture.{Picture}
 use Rattle.lr_image.specs.declared.fault.ImageFault.{ImageFault}
 use Rattle.lr_causes.specs.declared.note.Note.TheVariants.{Rendered}
 use Rattle.lr_cmd_shelf.specs.declared.opened.Opened.{Opened}
+use Rattle.lr_cmd_shelf.specs.Looking.{each_image}
 use Rattle.lr_cmd_shelf.specs.Queries.{Query}
 use Rattle.lr_cmd_shelf.specs.Files.{FileQuery, all_entries, query_of_files, no_text}
 
@@ -27,7 +28,7 @@ skipped_in read = count_by (λ opened. not (is_image opened.image)) read
 abbrev pub render_files_query : FileQuery
 render_files_query = record {
   range = all_entries;
-  looks = λ stored. true;
+  sees = each_image;
   fate = λ read number opened. Ok (image_text opened.image);
   gone = λ number. no_text;
   last = λ way read. no_text;

@@ -12,6 +12,7 @@ use Rattle.lr_cmd_shelf.specs.Queries.{entry_at, fate_of, answer_of, then_rest, 
 use Rattle.lr_cmd_shelf.specs.Queries.{AnswersIn, AnswersOn, BegunOn, IsAnswer, IsBegun}
 use Rattle.lr_cmd_shelf.specs.Queries.{without_last, query_over}
 use Rattle.lr_cmd_shelf.specs.Reached.{ReachesEntry}
+use Rattle.lr_cmd_shelf.specs.Sights.{SeesImages}
 use Rattle.lr_cmd_shelf.proofs.Seeing.{seen_once}
 
 -- a text was given or refused, not both
@@ -32,14 +33,14 @@ some_or_none o a is is' = cc (is, is')
 
 -- ---- one answer
 
-module _ (query : Query) (bytes : List ℕ) (way : Way) where
+module _ (query : Query) (images : SeesImages query.sees) (bytes : List ℕ) (way : Way) where
   -- what becomes of what stands there
   pub fates : (read : List EntryView) (number : ℕ) (one other : Option EntryView)
-      → IsSeen query.looks bytes (entry_at way number) one
-      → IsSeen query.looks bytes (entry_at way number) other
+      → IsSeen query.sees bytes (entry_at way number) one
+      → IsSeen query.sees bytes (entry_at way number) other
       → fate_of query way read number one ≡ fate_of query way read number other
   fates read number one other is is' =
-      ap (fate_of query way read number) (seen_once query.looks bytes (entry_at way number) one other is is')
+      ap (fate_of query way read number) (seen_once query.sees images bytes (entry_at way number) one other is is')
 
   pub from_is : (left number : ℕ) (read : List EntryView) (one other : Answer)
       → AnswersFrom (query_over query bytes way) left number read one
@@ -48,7 +49,7 @@ module _ (query : Query) (bytes : List ℕ) (way : Way) where
   from_is zero number read one other is is' = is ∙ sym is'
   from_is (suc left) number read one other (inl a) (inl b) =
       let same = some_is a.seen b.seen
-      (seen_once query.looks bytes (entry_at way number) (Some a.seen) (Some b.seen) a.stands b.stands) in
+      (seen_once query.sees images bytes (entry_at way number) (Some a.seen) (Some b.seen) a.stands b.stands) in
       let text = ok_is (query.fate read number b.seen) a.text b.text
       (ap (query.fate read number) (sym same) ∙ a.fate) b.fate in
       let rest = from_is left (number + 1) (read ++ b.seen ∷ []) a.rest b.rest
@@ -73,14 +74,14 @@ module _ (query : Query) (bytes : List ℕ) (way : Way) where
   in_is (Some range) one other is is' = from_is (range.to - range.from) range.from [] one other is is'
 
 -- bytes have one answer
-pub answer_is : (query : Query) (bytes : List ℕ) (one other : Answer) → IsAnswer query bytes one
-    → IsAnswer query bytes other → one ≡ other
-answer_is query bytes one other (inl a) (inl b) =
+pub answer_is : (query : Query) → SeesImages query.sees → (bytes : List ℕ) (one other : Answer)
+    → IsAnswer query bytes one → IsAnswer query bytes other → one ≡ other
+answer_is query images bytes one other (inl a) (inl b) =
     a.2 ∙ ap (λ (n : ℕ). refused_answer [] (NotAShelf n)) ((has_one_way bytes).place a.0 b.0 a.1 b.1) ∙ sym b.2
-answer_is query bytes one other (inl a) (inr b) = absurd ((has_one_way bytes).none b.0 a.0 b.1 a.1)
-answer_is query bytes one other (inr a) (inl b) = absurd ((has_one_way bytes).none a.0 b.0 a.1 b.1)
-answer_is query bytes one other (inr a) (inr b) =
-    in_is query bytes b.0 (query.range (length b.0.entries)) one other
+answer_is query images bytes one other (inl a) (inr b) = absurd ((has_one_way bytes).none b.0 a.0 b.1 a.1)
+answer_is query images bytes one other (inr a) (inl b) = absurd ((has_one_way bytes).none a.0 b.0 a.1 b.1)
+answer_is query images bytes one other (inr a) (inr b) =
+    in_is query images bytes b.0 (query.range (length b.0.entries)) one other
     (subst (λ (w : Way). AnswersOn (query_over query bytes w) one) ((has_one_way bytes).way a.0 b.0 a.1 b.1) a.2) b.2
 
 -- ---- the texts that are begun
@@ -89,7 +90,7 @@ answer_is query bytes one other (inr a) (inr b) =
 abbrev pub StartsWith : List ℕ → List ℕ → Type 0
 StartsWith text whole = (rest : List ℕ) × (whole ≡ text ++ rest)
 
-module _ (query : Query) (bytes : List ℕ) (way : Way) where
+module _ (query : Query) (images : SeesImages query.sees) (bytes : List ℕ) (way : Way) where
   front_from : (passed left number : ℕ) (read : List EntryView) (begun answer : Answer) → passed ≤ left
       → begun.refusal ≡ None → AnswersFrom (query_over (without_last query) bytes way) passed number read begun
       → AnswersFrom (query_over query bytes way) left number read answer → StartsWith begun.text answer.text
@@ -98,7 +99,7 @@ module _ (query : Query) (bytes : List ℕ) (way : Way) where
   front_from (suc passed) zero number read begun answer few none is is' = absurd (omega (arith, few))
   front_from (suc passed) (suc left) number read begun answer few none (inl a) (inl b) =
       let same = some_is a.seen b.seen
-      (seen_once query.looks bytes (entry_at way number) (Some a.seen) (Some b.seen) a.stands b.stands) in
+      (seen_once query.sees images bytes (entry_at way number) (Some a.seen) (Some b.seen) a.stands b.stands) in
       let text = ok_is (query.fate read number b.seen) a.text b.text
       (ap (query.fate read number) (sym same) ∙ a.fate) b.fate in
       let more = front_from passed left (number + 1) (read ++ b.seen ∷ []) a.rest b.rest (omega (arith, few))
@@ -114,7 +115,7 @@ module _ (query : Query) (bytes : List ℕ) (way : Way) where
       )
   front_from (suc passed) (suc left) number read begun answer few none (inl a) (inr b) =
       absurd (ok_or_err (fate_of query way read number b.seen) a.text b.refusal
-      (fates query bytes way read number b.seen (Some a.seen) b.stands a.stands ∙ a.fate) b.fate)
+      (fates query images bytes way read number b.seen (Some a.seen) b.stands a.stands ∙ a.fate) b.fate)
   front_from (suc passed) (suc left) number read begun answer few none (inr a) is' =
       absurd (some_or_none begun.refusal a.refusal (ap (λ (x : Answer). x.refusal) a.is) none)
 
@@ -127,14 +128,15 @@ module _ (query : Query) (bytes : List ℕ) (way : Way) where
       (subst (λ (r : Option Range). AnswersIn (query_over query bytes way) r answer) begun.allowed is)
 
 -- what is begun is a prefix of the answer
-pub begun_front : (query : Query) (bytes : List ℕ) (passed left : ℕ) (text : List ℕ) (answer : Answer)
+pub begun_front : (query : Query) → SeesImages query.sees → (bytes : List ℕ) (passed left : ℕ) (text : List ℕ)
+    (answer : Answer)
     → IsBegun query bytes passed left text → IsAnswer query bytes answer → StartsWith text answer.text
-begun_front query bytes passed left text answer (inl nothing) is =
+begun_front query images bytes passed left text answer (inl nothing) is =
     (answer.text, ap (λ (l : List ℕ). l ++ answer.text) (sym nothing.1))
-begun_front query bytes passed left text answer (inr begun) (inl none) =
+begun_front query images bytes passed left text answer (inr begun) (inl none) =
     absurd ((has_one_way bytes).none begun.0 none.0 begun.1 none.1)
-begun_front query bytes passed left text answer (inr begun) (inr some) =
-    front_on query bytes some.0 passed left text answer
+begun_front query images bytes passed left text answer (inr begun) (inr some) =
+    front_on query images bytes some.0 passed left text answer
     (subst (λ (w : Way). BegunOn (query_over query bytes w) passed left text)
     ((has_one_way bytes).way begun.0 some.0 begun.1 some.1) begun.2)
     some.2
@@ -155,7 +157,7 @@ module _ (query : Query) (bytes : List ℕ) (way : Way) (from : ℕ) where
           (sym (append_assoc text one rest.text))
 
       -- one entry more
-      pub reaches_more : (seen : EntryView) → IsSeen query.looks bytes (entry_at way number) (Some seen)
+      pub reaches_more : (seen : EntryView) → IsSeen query.sees bytes (entry_at way number) (Some seen)
           → (one : List ℕ)
           → query.fate read number seen ≡ Ok one
           → ReachesEntry (query_over query bytes way) from (number + 1) (read ++ seen ∷ []) (text ++ one)
@@ -183,7 +185,7 @@ module _ (query : Query) (bytes : List ℕ) (way : Way) (from : ℕ) where
 
       -- the run is refused here
       pub refused_here : (to : ℕ) → number < to → (seen : Option EntryView) (refusal : Refusal)
-          → IsSeen query.looks bytes (entry_at way number) seen → fate_of query way read number seen ≡ Err refusal
+          → IsSeen query.sees bytes (entry_at way number) seen → fate_of query way read number seen ≡ Err refusal
           → AnswersFrom (query_over query bytes way) (to - from) from [] (refused_answer text refusal)
       refused_here to more seen refusal stands fate =
           let left : to - number ≡ suc (to - (number + 1)) = omega (arith, more) in

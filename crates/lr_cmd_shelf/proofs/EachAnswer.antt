@@ -7,16 +7,18 @@ use Rattle.lr_image.specs.declared.fault.ImageFault.{ImageFault}
 use Rattle.lr_image.proofs.EachFile.{files_have_outcomes}
 use Rattle.lr_shelf_format.specs.Way.{Bad, EntryState, Gone, IsFound, Sound, Way}
 use Rattle.lr_shelf_format.specs.declared.entry.Entry.{Entry}
-use Rattle.lr_shelf_format.specs.declared.stored.Stored.{Stored}
 use Rattle.lr_shelf_format.proofs.SomeEntry.{some_found}
 use Rattle.lr_shelf_format.proofs.SomeWay.{some_way}
 use Rattle.lr_causes.specs.declared.cause.Refusal.{Refusal}
 use Rattle.lr_causes.specs.declared.cause.Refusal.TheVariants.{NoSuchFile, NotAShelf}
 use Rattle.lr_cmd_shelf.specs.declared.range.Range.{Range}
 use Rattle.lr_cmd_shelf.specs.Queries.{Absent, Answer, AnswersFrom, AnswersIn, Query, IsAnswer}
-use Rattle.lr_cmd_shelf.specs.Queries.{IsLooked, IsSeen, EntryView, Whole, Wrong, answer_of}
+use Rattle.lr_cmd_shelf.specs.Queries.{IsSeen, Sight, EntryView, Whole, Wrong, answer_of}
 use Rattle.lr_cmd_shelf.specs.Queries.{entry_at, fate_of, refused_answer, then_rest, query_over}
-use Rattle.lr_cmd_shelf.specs.Laws.{HasAnAnswer}
+use Rattle.lr_cmd_shelf.specs.Laws.{HasAnAnswer, query_of}
+use Rattle.lr_cmd_shelf.specs.Looking.{IsLooked}
+use Rattle.lr_cmd_shelf.specs.Sights.{SeesImages}
+use Rattle.lr_cmd_shelf.proofs.Seeing.{asked_sight}
 
 -- ---- what is seen at an entry
 
@@ -24,15 +26,16 @@ looked : (looks : Bool) (file : File) → (image : Option (Result Picture ImageF
 looked true file = let there = files_have_outcomes file in (Some there.0, there.1)
 looked false file = (None, tt)
 
-module _ (looks : Stored → Bool) (bytes : List ℕ) (entry : Entry) where
+module _ (sees : Sight) (images : SeesImages sees) (bytes : List ℕ) (entry : Entry) where
   abbrev SeenThere : Type 0
-  SeenThere = (seen : Option EntryView) × IsSeen looks bytes entry seen
+  SeenThere = (seen : Option EntryView) × IsSeen sees bytes entry seen
 
   seen_by : (found : Option EntryState) → IsFound bytes entry found → SeenThere
   seen_by None is = (None, is)
   seen_by (Some (Sound stored)) is =
-      let image = looked (looks stored) stored.file in
-      (Some (Whole (record { stored = stored; image = image.0 })), (is, image.1))
+      let sight = images stored in
+      let image = looked sight.0 stored.file in
+      (Some (Whole (record { stored = stored; image = image.0 })), (is, sight.1.looked image.0 image.1))
   seen_by (Some (Bad stored computed)) is = (Some (Wrong stored computed), is)
   seen_by (Some Gone) is = (Some Absent, is)
 
@@ -41,7 +44,8 @@ module _ (looks : Stored → Bool) (bytes : List ℕ) (entry : Entry) where
 
 -- ---- answers
 
-module _ (query : Query) (bytes : List ℕ) (fit : All (λ byte. byte < 256) bytes) where
+module _ (query : Query) (images : SeesImages query.sees) (bytes : List ℕ)
+    (fit : All (λ byte. byte < 256) bytes) where
   module _ (way : Way) where
     abbrev From : (left number : ℕ) → List EntryView → Type 0
     From left number read = (answer : Answer) × AnswersFrom (query_over query bytes way) left number read answer
@@ -49,7 +53,7 @@ module _ (query : Query) (bytes : List ℕ) (fit : All (λ byte. byte < 256) byt
     -- the fate of what is seen at an entry, and then of the others
     from_entry : (left number : ℕ) (read : List EntryView)
         → ((seen : EntryView) → From left (number + 1) (read ++ seen ∷ [])) → (seen : Option EntryView)
-        → IsSeen query.looks bytes (entry_at way number) seen → (fate : Result (List ℕ) Refusal)
+        → IsSeen query.sees bytes (entry_at way number) seen → (fate : Result (List ℕ) Refusal)
         → fate_of query way read number seen ≡ fate → From (suc left) number read
     from_entry left number read after seen stands (Err refusal) is = (
       refused_answer [] refusal,
@@ -73,7 +77,7 @@ module _ (query : Query) (bytes : List ℕ) (fit : All (λ byte. byte < 256) byt
     answers_from : (left number : ℕ) (read : List EntryView) → From left number read
     answers_from zero number read = (answer_of (query.last way read) (query.note read), refl)
     answers_from (suc left) number read =
-        let there = seen_there query.looks bytes (entry_at way number) fit in
+        let there = seen_there query.sees images bytes (entry_at way number) fit in
         from_entry left number read (λ seen. answers_from left (number + 1) (read ++ seen ∷ [])) there.0 there.1
         (fate_of query way read number there.0) refl
 
@@ -90,4 +94,4 @@ module _ (query : Query) (bytes : List ℕ) (fit : All (λ byte. byte < 256) byt
   ]
 
 pub has_an_answer : HasAnAnswer
-has_an_answer query bytes fit = some_answer query bytes fit
+has_an_answer asked bytes fit = some_answer (query_of asked) (asked_sight asked) bytes fit

@@ -22,7 +22,7 @@ use Rattle.lr_causes.specs.declared.cause.Refusal.TheVariants.{NotAShelf, BadChe
 use Rattle.lr_causes.specs.Outside.{outlet_counts, outlets, outlets_of}
 use Rattle.lr_causes.specs.declared.cause.Cause.{Cause}
 use Rattle.lr_cmd_shelf.specs.declared.opened.Opened.{Opened}
-use Rattle.lr_cmd_shelf.specs.Queries.{Query, IsLooked, EntryView, Whole, Wrong, Absent}
+use Rattle.lr_cmd_shelf.specs.Queries.{Query, EntryView, Whole, Wrong, Absent}
 use Rattle.lr_refusals.specs.Errors.{cause_of}
 use Rattle.lr_cmd_shelf.specs.Files.{FileQuery, query_of_files, files_of}
 use Rattle.lr_causes.specs.Counts.{CountsTell, NoneBesides}
@@ -55,13 +55,13 @@ fewer read few = omega (arith, few, length-files_of read)
 -- an opened file stands where the file does
 pub opened_stands : {D : Type 0} (disk : DiskOf D) (kept : KeptShelf) (number : ℕ) (d : D) (query : FileQuery)
     (stored : Stored) (opened : Opened) → opened.stored ≡ stored
-    → IsLooked (query.looks stored) stored.file opened.image
+    → query.sees stored opened.image
     → Finds disk (entry_of kept number) d (Some (Sound stored))
     → Finds disk (entry_of kept number) d (Some (Sound opened.stored))
-    × IsLooked (query.looks opened.stored) opened.stored.file opened.image
-opened_stands disk kept number d query stored opened same looked finds = (
+    × query.sees opened.stored opened.image
+opened_stands disk kept number d query stored opened same seen finds = (
   subst (λ (s : Stored). Finds disk (entry_of kept number) d (Some (Sound s))) (sym same) finds,
-  subst (λ (s : Stored). IsLooked (query.looks s) s.file opened.image) (sym same) looked,
+  subst (λ (s : Stored). query.sees s opened.image) (sym same) seen,
 )
 
 module _ {D O : Type 0} (disk : DiskOf D) (out : SinkOf O) where
@@ -126,7 +126,7 @@ module _ {D O : Type 0} (disk : DiskOf D) (out : SinkOf O) (kept : KeptShelf) (n
 
   module _ (query : FileQuery) (read : List EntryView) (d' : D) (o o' : O) where
     module _ (opened : Opened) (finds : Finds disk (entry_of kept number) d (Some (Sound opened.stored)))
-        (looked : IsLooked (query.looks opened.stored) opened.stored.file opened.image) where
+        (seen : query.sees opened.stored opened.image) where
       pub takes_file : (gathers : List Opened → Type 0)
           → PutsText out (query.fate (files_of read) number opened) o o'
           → gathers (files_of read ++ opened ∷ [])
@@ -134,7 +134,7 @@ module _ {D O : Type 0} (disk : DiskOf D) (out : SinkOf O) (kept : KeptShelf) (n
           (λ read'. gathers (files_of read')) (outlets d o) (outlets d' o')
       takes_file gathers puts gathered = record {
         seen = Whole opened;
-        stands = λ t. (finds t, looked);
+        stands = λ t. (finds t, seen);
         puts = puts;
         gathered = subst gathers (sym (files_of-whole read opened)) gathered;
       }
@@ -144,7 +144,7 @@ module _ {D O : Type 0} (disk : DiskOf D) (out : SinkOf O) (kept : KeptShelf) (n
           (outlets d o)
           (outlets d' o')
       stops_file = stops_seen disk out (query_of_files query) kept.way read number d d' o o' (Some (Whole opened))
-          (λ t. (finds t, looked))
+          (λ t. (finds t, seen))
 
     module _ (gone : IsGetRefusal disk kept number d Discarded') where
       pub takes_gone : (gathers : List Opened → Type 0) → PutsText out (query.gone number) o o'

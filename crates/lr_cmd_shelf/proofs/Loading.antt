@@ -34,6 +34,7 @@ use Rattle.lr_causes.specs.Outside.{outlet_counts, outlets, outlets_of}
 use Rattle.lr_refusals.specs.Errors.{cause_of}
 use Rattle.lr_cmd_shelf.specs.Runs.{PutsFirst, Got, Precedes, RunsReading, RunsOn, RunsOver}
 use Rattle.lr_cmd_shelf.specs.Runs.{at_place, cause_for, reading, allowed_by, allowed_on}
+use Rattle.lr_cmd_shelf.specs.Sights.{SeesImages}
 use Rattle.lr_cmd_shelf.proofs.Answering.{answer_is, begun_front}
 use Rattle.lr_cmd_shelf.proofs.Texts.{disk_counts, quiet_counts, same_counts}
 
@@ -44,40 +45,40 @@ some_after text one rest whole same some =
 
 module _ {D O : Type 0} (disk : DiskOf D) (out : SinkOf O) (query : Query) where
   -- what the bytes answer comes, unless an event came before it
-  ends : (bytes : List ℕ) (o o' : O) (cause : Cause)
+  ends : SeesImages query.sees → (bytes : List ℕ) (o o' : O) (cause : Cause)
       → Got out (allowed_by query bytes) cause o o' → (answer : Answer)
       → IsAnswer query bytes answer → (cause ≡ cause_for answer.refusal answer.note) ⊎ Precedes cause answer
-  ends bytes o o' Done got answer is =
+  ends images bytes o o' Done got answer is =
       inl (ap (λ (a : Answer). cause_for a.refusal a.note)
-      (answer_is query bytes (done_answer got.text None) answer got.is is))
-  ends bytes o o' (DoneWith note) got answer is =
+      (answer_is query images bytes (done_answer got.text None) answer got.is is))
+  ends images bytes o o' (DoneWith note) got answer is =
       inl (ap (λ (a : Answer). cause_for a.refusal a.note)
-      (answer_is query bytes (done_answer got.text (Some note)) answer got.is is))
-  ends bytes o o' Usage got answer is = absurd got
-  ends bytes o o' (Failed Source) got answer is = absurd got
-  ends bytes o o' (Failed Disk) got answer is = inr tt
-  ends bytes o o' (Failed Output) got answer is = inr (cut got.next) where
+      (answer_is query images bytes (done_answer got.text (Some note)) answer got.is is))
+  ends images bytes o o' Usage got answer is = absurd got
+  ends images bytes o o' (Failed Source) got answer is = absurd got
+  ends images bytes o o' (Failed Disk) got answer is = inr tt
+  ends images bytes o o' (Failed Output) got answer is = inr (cut got.next) where
     cut : IsBegun query bytes (got.passed + 1) 0 (got.text ++ got.one)
         ⊎ ((note : Option Note) × IsAnswer query bytes (done_answer (got.text ++ got.one) note))
         → 0 < length answer.text
     cut (inl begun) =
-        let front = begun_front query bytes (got.passed + 1) 0 (got.text ++ got.one) answer begun is in
+        let front = begun_front query images bytes (got.passed + 1) 0 (got.text ++ got.one) answer begun is in
         some_after got.text got.one front.0 answer.text front.1 got.some
     cut (inr whole) =
         some_after got.text got.one [] answer.text
         (ap (λ (a : Answer). a.text)
-        (answer_is query bytes answer (done_answer (got.text ++ got.one) whole.0) is whole.1)
+        (answer_is query images bytes answer (done_answer (got.text ++ got.one) whole.0) is whole.1)
         ∙ sym (append-nil (got.text ++ got.one))) got.some
-  ends bytes o o' NoMemory got answer is = inr tt
-  ends bytes o o' (Refused refusal) got answer is =
+  ends images bytes o o' NoMemory got answer is = inr tt
+  ends images bytes o o' (Refused refusal) got answer is =
       inl (ap (λ (a : Answer). cause_for a.refusal a.note)
-      (answer_is query bytes (refused_answer got.first.text refusal) answer got.is is))
+      (answer_is query images bytes (refused_answer got.first.text refusal) answer got.is is))
 
-  pub over : (d d' : D) (o o' : O) (cause : Cause)
+  pub over : SeesImages query.sees → (d d' : D) (o o' : O) (cause : Cause)
       → RunsReading (outlets_of disk out) (reading query (allowed_by query)) cause (outlets d o) (outlets d' o')
       → RunsOver (outlets_of disk out) query cause (outlets d o) (outlets d' o')
-  over d d' o o' cause runs =
-      record { runs = runs; ends = λ answer t. ends (disk.contents d) o o' cause (runs.got t) answer }
+  over images d d' o o' cause runs =
+      record { runs = runs; ends = λ answer t. ends images (disk.contents d) o o' cause (runs.got t) answer }
 
   -- nothing was put
   nothing : (bytes : List ℕ) (o : O) → PutsFirst out (allowed_by query bytes) 1 o o

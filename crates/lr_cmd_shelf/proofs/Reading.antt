@@ -44,21 +44,21 @@ module _ {D : Type 0} (disk : DiskOf D) (d : D) (query : Query) (way : Way) (fro
       (are : AreSeen disk d (entries_seen query way from read) texts)
       (seen : EntryView)
       (text : List ℕ)
-      (stands : disk.tells d → IsSeen query.looks (disk.contents d) (entry_at way (from + length read)) (Some seen))
+      (stands : disk.tells d → IsSeen query.sees (disk.contents d) (entry_at way (from + length read)) (Some seen))
       (fate : query.fate read (from + length read) seen ≡ Ok text) where
     abbrev all : List EntryView
     all = read ++ seen ∷ []
 
     stand_more : disk.tells d → (i : ℕ) → i < length all
-        → IsSeen query.looks (disk.contents d) (entry_at way (from + i)) (slice_get all i)
+        → IsSeen query.sees (disk.contents d) (entry_at way (from + i)) (slice_get all i)
     stand_more t i h = elim (cases_lt i (length read)) [
       | inl less ↦
-          subst (λ (o : Option EntryView). IsSeen query.looks (disk.contents d) (entry_at way (from + i)) o)
+          subst (λ (o : Option EntryView). IsSeen query.sees (disk.contents d) (entry_at way (from + i)) o)
           (sym (get_before read (seen ∷ []) i less)) (are.stand t i less)
       | inr more ↦
           let here : length read ≡ i = omega (arith, h, more, length-append read (seen ∷ [])) in
-          subst (λ (k : ℕ). IsSeen query.looks (disk.contents d) (entry_at way (from + k)) (slice_get all k)) here
-          (subst (λ (o : Option EntryView). IsSeen query.looks (disk.contents d) (entry_at way (from + length read)) o)
+          subst (λ (k : ℕ). IsSeen query.sees (disk.contents d) (entry_at way (from + k)) (slice_get all k)) here
+          (subst (λ (o : Option EntryView). IsSeen query.sees (disk.contents d) (entry_at way (from + length read)) o)
           (sym (get_last read seen)) (stands t))
     ]
 
@@ -114,7 +114,7 @@ gathered_over disk d d1 query gathers way put told same is_way has = record {
     are = record {
       stand = λ t i h.
           subst
-          (λ (l : List ℕ). IsSeen query.looks l (entry_at way (has.range.from + i)) (slice_get has.read i))
+          (λ (l : List ℕ). IsSeen query.sees l (entry_at way (has.range.from + i)) (slice_get has.read i))
           (same t) (has.are.stand (told t) i h);
       count = has.are.count;
       become = has.are.become;

@@ -21,7 +21,7 @@ use Rattle.lr_cmd_shelf.specs.declared.range.Range.{Range}
 use Rattle.lr_cmd_shelf.specs.Queries.{Query, Answer, entry_at, answer_of, fate_of, AnswersFrom}
 use Rattle.lr_cmd_shelf.specs.Queries.{AnswersIn, AnswersOn, IsAnswer, IsRefusedFor, IsSeen}
 use Rattle.lr_cmd_shelf.specs.Queries.{EntryView, Whole, Wrong, Absent, done_answer, plain}
-use Rattle.lr_cmd_shelf.specs.Queries.{refused_answer, query_over}
+use Rattle.lr_cmd_shelf.specs.Queries.{refused_answer, query_over, Sight, no_image}
 use Rattle.lr_cmd_shelf.specs.Export.{export_query}
 use Rattle.lr_cmd_shelf.specs.Extract.{extract_query}
 use Rattle.lr_refusals.specs.Errors.{image_fault}
@@ -29,6 +29,8 @@ use Rattle.lr_cmd_shelf.specs.declared.opened.Opened.{Opened}
 use Rattle.lr_cmd_shelf.specs.Files.{one_entry, query_of_files, query_of_one, refused_for}
 use Rattle.lr_cmd_shelf.specs.Laws.{HasReasons, ExtractHasReasons, HasExportReasons, ExportHasReasons, SaysWhy}
 use Rattle.lr_cmd_shelf.specs.Laws.{HasFirstReasons, OneFilePutsOneText, VerifyHasReasons}
+use Rattle.lr_cmd_shelf.specs.Looking.{each_image}
+use Rattle.lr_cmd_shelf.specs.Sights.{no_image_sight}
 use Rattle.lr_cmd_shelf.specs.Verify.{none_bad, verdict, verify_query}
 use Rattle.lr_cmd_shelf.proofs.Answering.{err_is, some_is, some_or_none}
 use Rattle.lr_cmd_shelf.proofs.Verifying.{none_bad-absent, none_bad-whole, none_bad-wrong}
@@ -86,7 +88,7 @@ module _ (query : Query) (number : ℕ) (ranges : (count : ℕ) → query.range 
         (subst (λ (w : Way). AnswersOn (query_over query bytes w) answer)
         ((has_one_way bytes).way some.0 way some.1 is) some.2))
 
-    stopped : (seen : Option EntryView) (refusal : Refusal) → IsSeen query.looks bytes (entry_at way number) seen
+    stopped : (seen : Option EntryView) (refusal : Refusal) → IsSeen query.sees bytes (entry_at way number) seen
         → fate_of query way [] number seen ≡ Err refusal → IsRefusedFor query bytes refusal
     stopped seen refusal stands fate = (
       refused_answer [] refusal,
@@ -97,7 +99,7 @@ module _ (query : Query) (number : ℕ) (ranges : (count : ℕ) → query.range 
 
     -- its text is the only one
     put_one : ((read : List EntryView) → answer_of (query.last way read) (query.note read) ≡ done_answer [] None)
-        → (seen : EntryView) → IsSeen query.looks bytes (entry_at way number) (Some seen) → (text : List ℕ)
+        → (seen : EntryView) → IsSeen query.sees bytes (entry_at way number) (Some seen) → (text : List ℕ)
         → query.fate [] number seen ≡ Ok text → IsAnswer query bytes (done_answer text None)
     put_one nothing seen stands text fate =
         one_entry_is (done_answer text None)
@@ -112,10 +114,10 @@ module _ (query : Query) (number : ℕ) (ranges : (count : ℕ) → query.range 
         }))
 
 -- what a command on a file's number refuses before it sees the file
-module _ (number : ℕ) (bytes : List ℕ) (way : Way) (is : IsWay bytes way) (looks : Bool)
+module _ (number : ℕ) (bytes : List ℕ) (way : Way) (is : IsWay bytes way) (sees : Sight)
     (fate : ℕ → Opened → Result (List ℕ) Refusal) where
   abbrev asked : Query
-  asked = query_of_files (query_of_one looks fate number)
+  asked = query_of_files (query_of_one sees fate number)
 
   ranges_are : (count : ℕ) → asked.range count ≡ one_entry number count
   ranges_are count = refl
@@ -140,7 +142,7 @@ module _ (number : ℕ) (bytes : List ℕ) (way : Way) (is : IsWay bytes way) wh
   module _ (there : number < length way.entries) where
     -- what a record with the right checksum is found to be
     not_refused : (entry_at way number).gone ≡ false → HasSoundRecord bytes (entry_at way number)
-        → (seen : Option EntryView) → IsSeen (λ stored. false) bytes (entry_at way number) seen → (refusal : Refusal)
+        → (seen : Option EntryView) → IsSeen no_image bytes (entry_at way number) seen → (refusal : Refusal)
         → fate_of (extract_query number) way [] number seen ≡ Err refusal → ⊥
     not_refused stays sound None stands refusal fate = stands.1 sound.has
     not_refused stays sound (Some (Whole opened)) stands refusal fate = cc (fate)
@@ -160,7 +162,7 @@ module _ (number : ℕ) (bytes : List ℕ) (way : Way) (is : IsWay bytes way) wh
 
   reasons : HasReasons number bytes way
   reasons = record {
-    first = first_reasons number bytes way is false _;
+    first = first_reasons number bytes way is no_image _;
     sound = λ there stored stands.
         put_one (extract_query number) number one bytes way is there (λ read. refl) (plain stored) (stands, tt)
         (proper_of stored.file) refl;
@@ -203,7 +205,7 @@ module _ (number : ℕ) (bytes : List ℕ) (way : Way) (is : IsWay bytes way) wh
 
   export_reasons : HasExportReasons number bytes way
   export_reasons = record {
-    first = first_reasons number bytes way is true _;
+    first = first_reasons number bytes way is each_image _;
     fault = faulty;
     image = pictured;
   }
@@ -245,7 +247,7 @@ module _ (bytes : List ℕ) (way : Way) where
     | inr here ↦
         let same : which ≡ number = omega (arith, above, here) in
         absurd (some_or_none (Some a.seen) a.seen refl
-        (seen_once (λ stored. false) bytes (entry_at way number) (Some a.seen) None a.stands
+        (seen_once no_image no_image_sight bytes (entry_at way number) (Some a.seen) None a.stands
         (subst (λ n. IsFound bytes (entry_at way n) None) same none)))
   ]
   none_from (suc left) number read answer (inr b) which above below none =
@@ -254,11 +256,11 @@ module _ (bytes : List ℕ) (way : Way) where
 
   module _ (stand : (each : ℕ) → each < length way.entries → IsFound bytes (entry_at way each) None → ⊥) where
     no_stop : (number : ℕ) → number < length way.entries → (read : List EntryView) (seen : Option EntryView)
-        (refusal : Refusal) → IsSeen (λ stored. false) bytes (entry_at way number) seen
+        (refusal : Refusal) → IsSeen no_image bytes (entry_at way number) seen
         → fate_of verify_query way read number seen ≡ Err refusal → ⊥
     no_stop number there read seen refusal stands fate =
         let stop = at_none read number seen refusal fate in
-        stand number there (subst (IsSeen (λ stored. false) bytes (entry_at way number)) stop.0 stands)
+        stand number there (subst (IsSeen no_image bytes (entry_at way number)) stop.0 stands)
 
     -- a wrong checksum was read
     spoilt_from : (left number : ℕ) (read : List EntryView) (answer : Answer) → number + left ≤ length way.entries
@@ -288,7 +290,8 @@ module _ (bytes : List ℕ) (way : Way) where
               let same : which ≡ number = omega (arith, above, here) in
               let found : a.seen ≡ Wrong stored computed =
               some_is a.seen (Wrong stored computed)
-              (seen_once (λ stored. false) bytes (entry_at way number) (Some a.seen) (Some (Wrong stored computed))
+              (seen_once no_image no_image_sight bytes (entry_at way number) (Some a.seen)
+              (Some (Wrong stored computed))
               a.stands
               (subst (λ n. IsFound bytes (entry_at way n) (Some (Bad stored computed))) same bad)) in
               ap (λ (x : Answer). x.refusal) a.is
@@ -311,7 +314,7 @@ module _ (bytes : List ℕ) (way : Way) where
     no_bad each (inr sound) stored computed bad = bad.4 (bad.2 ∙ sound.right ∙ sym bad.3)
 
     stays_right : (each : ℕ) → each < length way.entries → (read : List EntryView) (seen : EntryView)
-        → IsSeen (λ stored. false) bytes (entry_at way each) (Some seen) → none_bad read ≡ true
+        → IsSeen no_image bytes (entry_at way each) (Some seen) → none_bad read ≡ true
         → none_bad (read ++ seen ∷ []) ≡ true
     stays_right each there read (Whole opened) stands good = none_bad-whole read opened ∙ good
     stays_right each there read (Wrong stored computed) stands good =

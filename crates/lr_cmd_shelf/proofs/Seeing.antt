@@ -9,7 +9,10 @@ use Rattle.lr_shelf_format.specs.declared.entry.Entry.{Entry}
 use Rattle.lr_shelf_format.specs.declared.stored.Stored.{Stored}
 use Rattle.lr_shelf_format.proofs.WayLemmas.{found_once}
 use Rattle.lr_cmd_shelf.specs.declared.opened.Opened.{Opened}
-use Rattle.lr_cmd_shelf.specs.Queries.{EntryView, Whole, Wrong, Absent, IsLooked, IsSeen}
+use Rattle.lr_cmd_shelf.specs.Laws.{Asked, Looks, AtNone, AtImages, query_of, sight_of}
+use Rattle.lr_cmd_shelf.specs.Looking.{IsLooked}
+use Rattle.lr_cmd_shelf.specs.Queries.{EntryView, Whole, Wrong, Absent, IsSeen, Sight}
+use Rattle.lr_cmd_shelf.specs.Sights.{SeesImages, images_sight, no_image_sight}
 
 -- one image, or one first fault
 looked_once : (looks : Bool) (file : File) (one other : Option (Result Picture ImageFault)) → IsLooked looks file one
@@ -22,18 +25,24 @@ looked_once false file None None is is' = refl
 looked_once false file None (Some other) is is' = absurd is'
 looked_once false file (Some one) other is is' = absurd is
 
+-- and so of what is seen of it
+image_once : (sees : Sight) → SeesImages sees → (stored : Stored) (one other : Option (Result Picture ImageFault))
+    → sees stored one → sees stored other → one ≡ other
+image_once sees images stored one other is is' =
+    let sight = images stored in
+    looked_once sight.0 stored.file one other (sight.1.only one is) (sight.1.only other is')
+
 opened_is : {s t : Stored} {i j : Option (Result Picture ImageFault)} → s ≡ t → i ≡ j
     → ◌≡◌ {A = Opened} (record { stored = s; image = i }) (record { stored = t; image = j })
 opened_is p q = rw (p, q) refl
 
-module _ (looks : Stored → Bool) (bytes : List ℕ) (entry : Entry) where
+module _ (sees : Sight) (images : SeesImages sees) (bytes : List ℕ) (entry : Entry) where
   same_file : (one other : Opened) → Sound one.stored ≡ Sound other.stored
-      → IsLooked (looks one.stored) one.stored.file one.image
-      → IsLooked (looks other.stored) other.stored.file other.image → one ≡ other
+      → sees one.stored one.image → sees other.stored other.image → one ≡ other
   same_file one other same is is' =
       let stored : one.stored ≡ other.stored = cc (same) in
-      opened_is stored (looked_once (looks other.stored) other.stored.file one.image other.image
-      (subst (λ (s : Stored). IsLooked (looks s) s.file one.image) stored is) is')
+      opened_is stored (image_once sees images other.stored one.image other.image
+      (subst (λ (s : Stored). sees s one.image) stored is) is')
 
   -- what was found there, of what is seen
   abbrev found_in : Option EntryView → Option EntryState
@@ -42,19 +51,19 @@ module _ (looks : Stored → Bool) (bytes : List ℕ) (entry : Entry) where
   found_in (Some (Wrong stored computed)) = Some (Bad stored computed)
   found_in (Some Absent) = Some Gone
 
-  is_found : (seen : Option EntryView) → IsSeen looks bytes entry seen → IsFound bytes entry (found_in seen)
+  is_found : (seen : Option EntryView) → IsSeen sees bytes entry seen → IsFound bytes entry (found_in seen)
   is_found None is = is
   is_found (Some (Whole opened)) is = is.0
   is_found (Some (Wrong stored computed)) is = is
   is_found (Some Absent) is = is
 
-  found_same : (one other : Option EntryView) → IsSeen looks bytes entry one → IsSeen looks bytes entry other
+  found_same : (one other : Option EntryView) → IsSeen sees bytes entry one → IsSeen sees bytes entry other
       → found_in one ≡ found_in other
   found_same one other is is' =
       found_once bytes entry (found_in one) (found_in other) (is_found one is) (is_found other is')
 
-  once : (one other : Option EntryView) → found_in one ≡ found_in other → IsSeen looks bytes entry one
-      → IsSeen looks bytes entry other → one ≡ other
+  once : (one other : Option EntryView) → found_in one ≡ found_in other → IsSeen sees bytes entry one
+      → IsSeen sees bytes entry other → one ≡ other
   once None None same is is' = refl
   once None (Some (Whole b)) same is is' = cc (same)
   once None (Some (Wrong s c)) same is is' = cc (same)
@@ -76,7 +85,16 @@ module _ (looks : Stored → Bool) (bytes : List ℕ) (entry : Entry) where
   once (Some Absent) (Some Absent) same is is' = refl
 
 -- one thing is seen
-pub seen_once : (looks : Stored → Bool) (bytes : List ℕ) (entry : Entry) (one other : Option EntryView)
-    → IsSeen looks bytes entry one → IsSeen looks bytes entry other → one ≡ other
-seen_once looks bytes entry one other is is' =
-    once looks bytes entry one other (found_same looks bytes entry one other is is') is is'
+pub seen_once : (sees : Sight) → SeesImages sees → (bytes : List ℕ) (entry : Entry) (one other : Option EntryView)
+    → IsSeen sees bytes entry one → IsSeen sees bytes entry other → one ≡ other
+seen_once sees images bytes entry one other is is' =
+    once sees images bytes entry one other (found_same sees images bytes entry one other is is') is is'
+
+-- ---- what is asked, as plain data
+
+looks_sight : (looks : Looks) → SeesImages (sight_of looks)
+looks_sight AtNone = no_image_sight
+looks_sight (AtImages those) = images_sight those
+
+pub asked_sight : (asked : Asked) → SeesImages (query_of asked).sees
+asked_sight asked = looks_sight asked.looks

@@ -106,10 +106,10 @@ module _ {D O : Type 0} (disk : DiskOf D) (out : SinkOf O) (query : Query) (way 
     module _ (more : number < range.to) (d1 : D) (told : disk.tells d → disk.tells d1)
         (same : disk.tells d → disk.contents d1 ≡ disk.contents d) where
       at_start : (seen : Option EntryView)
-          → (disk.tells d1 → IsSeen query.looks (disk.contents d1) (entry_at way number) seen) → disk.tells d
-          → IsSeen query.looks (disk.contents d) (entry_at way number) seen
+          → (disk.tells d1 → IsSeen query.sees (disk.contents d1) (entry_at way number) seen) → disk.tells d
+          → IsSeen query.sees (disk.contents d) (entry_at way number) seen
       at_start seen stands t =
-          subst (λ (b : List ℕ). IsSeen query.looks b (entry_at way number) seen) (same t) (stands (told t))
+          subst (λ (b : List ℕ). IsSeen query.sees b (entry_at way number) seen) (same t) (stands (told t))
 
       pub so_more : (gathers' : List EntryView → Type 0) (d2 : D)
           → TakesEntry (outlets_of disk out) (standing_at query way so.read number) gathers' (outlets d1 o1)
@@ -140,7 +140,7 @@ module _ {D O : Type 0} (disk : DiskOf D) (out : SinkOf O) (query : Query) (way 
         seen =
             let here : number ≡ range.from + length so.read = omega (arith, so.all, so.after) in
             one_more_seen disk d query way range.from so.read so.texts so.seen takes.seen takes.puts.text
-            (λ t. subst (λ n. IsSeen query.looks (disk.contents d) (entry_at way n) (Some takes.seen)) here
+            (λ t. subst (λ n. IsSeen query.sees (disk.contents d) (entry_at way n) (Some takes.seen)) here
             (at_start (Some takes.seen) takes.stands t))
             (subst (λ n. query.fate so.read n takes.seen ≡ Ok takes.puts.text) here takes.puts.is);
       }
@@ -148,7 +148,7 @@ module _ {D O : Type 0} (disk : DiskOf D) (out : SinkOf O) (query : Query) (way 
       module _ (allowed : query.range (length way.entries) ≡ Some range) (t : disk.tells d) where
         -- `out` failed in the text of the entry
         cut_here : (seen : Option EntryView)
-            → (disk.tells d1 → IsSeen query.looks (disk.contents d1) (entry_at way number) seen)
+            → (disk.tells d1 → IsSeen query.sees (disk.contents d1) (entry_at way number) seen)
             → CutsText out (fate_of query way so.read number seen) o1 o2
             → PutsCut out (record { answer = (MayAnswer t allowed); begin = (MayBegin t allowed) }) o o2
         cut_here None stands cuts = absurd (no_text cuts.is) where

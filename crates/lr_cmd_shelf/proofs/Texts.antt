@@ -190,7 +190,7 @@ module _ {D O : Type 0} (disk : DiskOf D) (out : SinkOf O) where
 
     -- what stands there is known, and its text was not put
     pub stops_seen : (seen : Option EntryView)
-        → (disk.tells d → IsSeen query.looks (disk.contents d) (entry_at way number) seen) → (cause : Cause)
+        → (disk.tells d → IsSeen query.sees (disk.contents d) (entry_at way number) seen) → (cause : Cause)
         → TextStops out (fate_of query way read number seen) cause o o'
         → EntryStops (outlets_of disk out) (standing_at query way read number) cause (outlets d o) (outlets d' o')
     stops_seen seen stands Done stops = absurd stops

@@ -18,6 +18,7 @@ use Rattle.lr_causes.specs.declared.fault.ExportFault.TheVariants.{NoSegment}
 use Rattle.lr_causes.specs.declared.note.Note.{Note}
 use Rattle.lr_causes.specs.declared.note.Note.TheVariants.{Assembled}
 use Rattle.lr_cmd_shelf.specs.declared.opened.Opened.{Opened}
+use Rattle.lr_cmd_shelf.specs.Looking.{images_where}
 use Rattle.lr_cmd_shelf.specs.Queries.{Query}
 use Rattle.lr_refusals.specs.Errors.{assembly_fault}
 use Rattle.lr_cmd_shelf.specs.Files.{FileQuery, query_of_files, entries_between, no_text, refused_for}
@@ -83,7 +84,7 @@ module _ (apid image : ℕ) where
 abbrev pub assemble_files_query : (from to apid image : ℕ) → FileQuery
 assemble_files_query from to apid image = record {
   range = entries_between from to;
-  looks = λ stored. is_some (segment_for_image apid image stored.file);
+  sees = images_where (λ stored. is_some (segment_for_image apid image stored.file));
   fate = λ read n opened. join_fate (members_of apid image read) (member_of apid image opened);
   gone = λ n. no_text;
   last = λ way read. whole_fate (members_of apid image read);

@@ -1,9 +1,10 @@
 -- `export N`: the image of a file as PGM.
-use Rattle.std.specs.Prelude.{ℕ, true, Option, Some, None, Result, Ok, Err, List}
+use Rattle.std.specs.Prelude.{ℕ, Option, Some, None, Result, Ok, Err, List}
 use Rattle.lr_image.specs.Pgm.{pgm_text}
 use Rattle.lr_image.specs.Picture.{Picture}
 use Rattle.lr_image.specs.declared.fault.ImageFault.{ImageFault}
 use Rattle.lr_causes.specs.declared.cause.Refusal.{Refusal}
+use Rattle.lr_cmd_shelf.specs.Looking.{each_image}
 use Rattle.lr_cmd_shelf.specs.Queries.{Query}
 use Rattle.lr_refusals.specs.Errors.{image_fault}
 use Rattle.lr_cmd_shelf.specs.declared.opened.Opened.{Opened}
@@ -19,4 +20,4 @@ abbrev pub export_fate : ℕ → Opened → Result (List ℕ) Refusal
 export_fate number opened = image_fate opened.image
 
 abbrev pub export_query : ℕ → Query
-export_query number = query_of_files (query_of_one true export_fate number)
+export_query number = query_of_files (query_of_one each_image export_fate number)

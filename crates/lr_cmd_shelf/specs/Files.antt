@@ -1,20 +1,19 @@
 -- What a command asks that reads whole files: one with a wrong checksum is refused, and one that is gone has its own
 -- text or refusal.
-use Rattle.std.specs.Prelude.{ℕ, ◌+◌, ◌&&◌, Bool, false, Option, Some, None, Result, Ok, Err, List, [], ◌∷◌, ltb}
+use Rattle.std.specs.Prelude.{ℕ, ◌+◌, ◌&&◌, Option, Some, None, Result, Ok, Err, List, [], ◌∷◌, ltb}
 use Rattle.std.specs.Prelude.{if◌then◌else◌, nat_le}
 use Rattle.lr_shelf_format.specs.Way.{Way}
-use Rattle.lr_shelf_format.specs.declared.stored.Stored.{Stored}
 use Rattle.lr_causes.specs.declared.cause.Refusal.{Refusal}
 use Rattle.lr_causes.specs.declared.cause.Refusal.TheVariants.{BadChecksum, CannotExport, Discarded}
 use Rattle.lr_causes.specs.declared.fault.ExportFault.{ExportFault}
 use Rattle.lr_causes.specs.declared.note.Note.{Note}
 use Rattle.lr_cmd_shelf.specs.declared.opened.Opened.{Opened}
 use Rattle.lr_cmd_shelf.specs.declared.range.Range.{Range}
-use Rattle.lr_cmd_shelf.specs.Queries.{Query, EntryView, Whole, Wrong, Absent}
+use Rattle.lr_cmd_shelf.specs.Queries.{Query, Sight, EntryView, Whole, Wrong, Absent}
 
-pub record FileQuery : Type 0 where
+pub record FileQuery : Type 1 where
   pub range : ℕ → Option Range
-  pub looks : Stored → Bool
+  pub sees : Sight
   -- of a file after those that were read
   pub fate : List Opened → ℕ → Opened → Result (List ℕ) Refusal
   -- of an entry that is gone
@@ -37,7 +36,7 @@ fate_by query read number Absent = query.gone number
 abbrev pub query_of_files : FileQuery → Query
 query_of_files query = record {
   range = query.range;
-  looks = query.looks;
+  sees = query.sees;
   fate = fate_by query;
   last = λ way read. query.last way (files_of read);
   note = λ read. query.note (files_of read);
@@ -61,11 +60,11 @@ abbrev pub refused_for : Option ExportFault → Result (List ℕ) Refusal
 refused_for (Some fault) = Err (CannotExport fault)
 refused_for None = no_text
 
--- the file of this number, whose image is looked at or not; one that is gone is refused
-abbrev pub query_of_one : Bool → (ℕ → Opened → Result (List ℕ) Refusal) → ℕ → FileQuery
-query_of_one looks fate number = record {
+-- the file of this number, of whose image this is seen; one that is gone is refused
+abbrev pub query_of_one : Sight → (ℕ → Opened → Result (List ℕ) Refusal) → ℕ → FileQuery
+query_of_one sees fate number = record {
   range = one_entry number;
-  looks = λ stored. looks;
+  sees = sees;
   fate = λ read n opened. fate n opened;
   gone = λ n. Err Discarded;
   last = λ way read. no_text;
@@ -77,10 +76,6 @@ abbrev pub entries_between : (from to : ℕ) → ℕ → Option Range
 entries_between from to count =
     if nat_le from to && nat_le to count then Some (record { from = from; to = to }) else None
 
--- a command that looks at no image
-abbrev pub no_image : Stored → Bool
-no_image stored = false
-
--- and one that tells nothing
+-- a command that tells nothing
 abbrev pub no_note : List Opened → Option Note
 no_note read = None

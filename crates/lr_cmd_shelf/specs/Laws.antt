@@ -1,5 +1,5 @@
 -- What is true of all bytes.
-use Rattle.std.specs.Prelude.{◌≡◌, ◌⊎◌, ◌<◌, ◌≤◌, ◌++◌, ℕ, Bool, true, false, Some, None, Result}
+use Rattle.std.specs.Prelude.{◌≡◌, ◌⊎◌, ◌<◌, ◌≤◌, ◌++◌, ℕ, Bool, true, false, Option, Some, None, Result}
 use Rattle.std.specs.Prelude.{Ok, Err, All, List, length}
 use Rattle.lr_bits.specs.File.{proper_of}
 use Rattle.lr_image.specs.Pgm.{pgm_text}
@@ -8,36 +8,69 @@ use Rattle.lr_image.specs.Images.{HasOutcome}
 use Rattle.lr_image.specs.declared.fault.ImageFault.{ImageFault}
 use Rattle.lr_shelf_format.specs.Way.{Way, IsWay, Bad, HasSoundRecord, IsFound, Sound}
 use Rattle.lr_shelf_format.specs.declared.stored.Stored.{Stored}
-use Rattle.lr_cmd_shelf.specs.Queries.{Query, Answer, entry_at, IsAnswer, IsBegun, IsRefusedFor}
-use Rattle.lr_cmd_shelf.specs.Queries.{PutsOneText, done_answer}
+use Rattle.lr_cmd_shelf.specs.Looking.{images_where}
+use Rattle.lr_cmd_shelf.specs.Queries.{Query, Answer, EntryView, Sight, entry_at, IsAnswer, IsBegun}
+use Rattle.lr_cmd_shelf.specs.Queries.{IsRefusedFor, PutsOneText, done_answer, no_image}
 use Rattle.lr_cmd_shelf.specs.Export.{export_query}
 use Rattle.lr_cmd_shelf.specs.Extract.{extract_query}
 use Rattle.lr_refusals.specs.Errors.{image_fault}
 use Rattle.lr_cmd_shelf.specs.Files.{query_of_files, query_of_one}
 use Rattle.lr_cmd_shelf.specs.declared.opened.Opened.{Opened}
+use Rattle.lr_cmd_shelf.specs.declared.range.Range.{Range}
 use Rattle.lr_causes.specs.declared.cause.Refusal.{Refusal}
+use Rattle.lr_causes.specs.declared.note.Note.{Note}
 use Rattle.lr_cmd_shelf.specs.Verify.{verify_query}
 use Rattle.lr_causes.specs.declared.cause.Refusal.TheVariants.{NotAShelf, NoSuchFile, BadChecksum, Discarded}
 use Rattle.lr_causes.specs.declared.cause.Refusal.TheVariants.{CannotExport}
 use Rattle.lr_causes.specs.declared.fault.ExportFault.{ExportFault}
 
+-- ---- what is asked, as plain data
+
+-- the images at which a command looks: none, or those of these files
+pub data Looks : Type 0 where
+  AtNone : Looks
+  AtImages : (those : Stored → Bool) → Looks
+
+abbrev pub sight_of : Looks → Sight
+sight_of AtNone = no_image
+sight_of (AtImages those) = images_where those
+
+-- What may be asked: the query of each command is that of such a record.
+pub record Asked : Type 0 where
+  pub range : ℕ → Option Range
+  pub looks : Looks
+  pub fate : List EntryView → ℕ → EntryView → Result (List ℕ) Refusal
+  pub last : Way → List EntryView → Result (List ℕ) Refusal
+  pub note : List EntryView → Option Note
+
+abbrev pub query_of : Asked → Query
+query_of asked = record {
+  range = asked.range;
+  sees = sight_of asked.looks;
+  fate = asked.fate;
+  last = asked.last;
+  note = asked.note;
+}
+
+-- ---- answers
+
 -- bytes have an answer to each thing that is asked
 abbrev pub HasAnAnswer : Type 0
 HasAnAnswer =
-    (query : Query) (bytes : List ℕ) → All (λ byte. byte < 256) bytes
-    → (answer : Answer) × IsAnswer query bytes answer
+    (asked : Asked) (bytes : List ℕ) → All (λ byte. byte < 256) bytes
+    → (answer : Answer) × IsAnswer (query_of asked) bytes answer
 
 -- bytes have one answer at most
 abbrev pub HasOneAnswer : Type 0
 HasOneAnswer =
-    (query : Query) (bytes : List ℕ) (one other : Answer) → IsAnswer query bytes one → IsAnswer query bytes other
-    → one ≡ other
+    (asked : Asked) (bytes : List ℕ) (one other : Answer) → IsAnswer (query_of asked) bytes one
+    → IsAnswer (query_of asked) bytes other → one ≡ other
 
 -- the texts that are begun are a prefix of the answer
 abbrev pub BegunComesFirst : Type 0
 BegunComesFirst =
-    (query : Query) (bytes : List ℕ) (passed left : ℕ) (text : List ℕ) (answer : Answer)
-    → IsBegun query bytes passed left text → IsAnswer query bytes answer
+    (asked : Asked) (bytes : List ℕ) (passed left : ℕ) (text : List ℕ) (answer : Answer)
+    → IsBegun (query_of asked) bytes passed left text → IsAnswer (query_of asked) bytes answer
     → (rest : List ℕ) × (answer.text ≡ text ++ rest)
 
 -- ---- reasons
@@ -85,8 +118,8 @@ ExportHasReasons = (number : ℕ) (bytes : List ℕ) (way : Way) → IsWay bytes
 -- the only text of a command on a file's number is that of one entry
 abbrev pub OneFilePutsOneText : Type 0
 OneFilePutsOneText =
-    (looks : Bool) (fate : ℕ → Opened → Result (List ℕ) Refusal) (number : ℕ)
-    → PutsOneText (query_of_files (query_of_one looks fate number))
+    (looks : Looks) (fate : ℕ → Opened → Result (List ℕ) Refusal) (number : ℕ)
+    → PutsOneText (query_of_files (query_of_one (sight_of looks) fate number))
 
 -- Each reason that `verify` has for a refusal, and that it has no other.
 pub record SaysWhy (bytes : List ℕ) (way : Way) (answer : Answer) : Type 0 where

@@ -9,10 +9,12 @@ pub mod Files
 pub mod Gathered
 pub mod Laws
 pub mod List
+pub mod Looking
 pub mod Read
 pub mod Reached
 pub mod Repack
 pub mod Runs
 pub mod Show
+pub mod Sights
 pub mod Steps
 pub mod Verify

@@ -1,9 +1,7 @@
 -- What a command asks of the entries of a shelf, and what bytes answer it, entry by entry, in the order of the call.
-use Rattle.std.specs.Prelude.{◌≡◌, ◌⊎◌, ◌≤◌, ◌+◌, ◌-◌, ℕ, zero, suc, Bool, true, false, Option, Some, None}
+use Rattle.std.specs.Prelude.{◌≡◌, ◌⊎◌, ◌≤◌, ◌+◌, ◌-◌, ℕ, zero, suc, Option, Some, None}
 use Rattle.std.specs.Prelude.{Result, Ok, Err, List, [], ◌∷◌, ◌++◌, length}
-use Rattle.lr_bits.specs.File.{File}
 use Rattle.lr_image.specs.Picture.{Picture}
-use Rattle.lr_image.specs.Images.{HasOutcome}
 use Rattle.lr_image.specs.declared.fault.ImageFault.{ImageFault}
 use Rattle.lr_shelf_format.specs.Way.{Way, IsWay, IsNoShelfAt, Sound, Bad, Gone, IsFound, entry_in}
 use Rattle.lr_shelf_format.specs.declared.entry.Entry.{Entry}
@@ -27,29 +25,31 @@ pub data EntryView : Type 0 where
 abbrev pub plain : Stored → EntryView
 plain stored = Whole (record { stored = stored; image = None })
 
--- the image of a file is there where the command looks at it, and nowhere else
-abbrev pub IsLooked : Bool → File → Option (Result Picture ImageFault) → Type 0
-IsLooked true file (Some outcome) = HasOutcome file outcome
-IsLooked false file None = Unit {0}
-IsLooked _ file _ = ⊥
+-- what a command sees of the image of a file
+abbrev pub Sight : Type 1
+Sight = Stored → Option (Result Picture ImageFault) → Type 0
 
--- what is seen at this entry, by a command that looks at the images of these files; None where no item stands
-abbrev pub IsSeen : (Stored → Bool) → List ℕ → Entry → Option EntryView → Type 0
-IsSeen looks bytes entry None = IsFound bytes entry None
-IsSeen looks bytes entry (Some (Whole opened)) =
-    IsFound bytes entry (Some (Sound opened.stored))
-    × IsLooked (looks opened.stored) opened.stored.file opened.image
-IsSeen looks bytes entry (Some (Wrong stored computed)) = IsFound bytes entry (Some (Bad stored computed))
-IsSeen looks bytes entry (Some Absent) = IsFound bytes entry (Some Gone)
+-- it looks at no image
+abbrev pub no_image : Stored → Option (Result Picture ImageFault) → Type 0
+no_image stored None = Unit {0}
+no_image stored (Some outcome) = ⊥
+
+-- what is seen at this entry, by a command that sees this of images; None where no item stands
+abbrev pub IsSeen : Sight → List ℕ → Entry → Option EntryView → Type 0
+IsSeen sees bytes entry None = IsFound bytes entry None
+IsSeen sees bytes entry (Some (Whole opened)) =
+    IsFound bytes entry (Some (Sound opened.stored)) × sees opened.stored opened.image
+IsSeen sees bytes entry (Some (Wrong stored computed)) = IsFound bytes entry (Some (Bad stored computed))
+IsSeen sees bytes entry (Some Absent) = IsFound bytes entry (Some Gone)
 
 -- ---- what it asks
 
--- Plain data, which the words of a command give by themselves.
-pub record Query : Type 0 where
+-- The words of a command give it by themselves. All but `sees` is plain data.
+pub record Query : Type 1 where
   -- which entries, of this many; None where a number isn't allowed
   pub range : ℕ → Option Range
-  -- the files at whose images it looks
-  pub looks : Stored → Bool
+  -- what it sees of the image of a file
+  pub sees : Sight
   -- the text of an entry after those that were seen, or what the run is refused for there
   pub fate : List EntryView → ℕ → EntryView → Result (List ℕ) Refusal
   -- the last text, or what the run is refused for after the last entry
@@ -89,7 +89,7 @@ abbrev pub then_rest : List ℕ → Answer → Answer
 then_rest text rest = record { text = text ++ rest.text; refusal = rest.refusal; note = rest.note }
 
 -- what is asked of a shelf of this way
-pub record QueryOn : Type 0 where
+pub record QueryOn : Type 1 where
   pub query : Query
   pub way : Way
 
@@ -97,7 +97,7 @@ abbrev pub query_on : Query → Way → QueryOn
 query_on query way = record { query = query; way = way }
 
 -- and of its bytes
-pub record QueryOver : Type 0 where
+pub record QueryOver : Type 1 where
   pub query : Query
   pub bytes : List ℕ
   pub way : Way
@@ -112,7 +112,7 @@ module _ (over : QueryOver) where
     pub seen : EntryView
     pub text : List ℕ
     pub rest : Answer
-    pub stands : IsSeen over.query.looks over.bytes (entry_at over.way number) (Some seen)
+    pub stands : IsSeen over.query.sees over.bytes (entry_at over.way number) (Some seen)
     pub fate : over.query.fate read number seen ≡ Ok text
     pub after : After seen rest
     pub is : answer ≡ then_rest text rest
@@ -121,7 +121,7 @@ module _ (over : QueryOver) where
   pub record IsRefusedAtEntry (read : List EntryView) (number : ℕ) (answer : Answer) : Type 0 where
     pub seen : Option EntryView
     pub refusal : Refusal
-    pub stands : IsSeen over.query.looks over.bytes (entry_at over.way number) seen
+    pub stands : IsSeen over.query.sees over.bytes (entry_at over.way number) seen
     pub fate : fate_of over.query over.way read number seen ≡ Err refusal
     pub is : answer ≡ refused_answer [] refusal
 

@@ -10,7 +10,7 @@ use Rattle.lr_cmd_shelf.specs.Queries.{Query, QueryOn, IsSeen, EntryView, entry_
 
 -- over every disk; what stands on it is said where it tells its contents
 -- entries that a query saw, from a number on
-pub record EntriesSeen : Type 0 where
+pub record EntriesSeen : Type 1 where
   pub query : Query
   pub way : Way
   pub from : ℕ
@@ -23,7 +23,7 @@ module _ {D : Type 0} (disk : DiskOf D) (d : D) where
   -- these were seen, in their order, and these are their texts
   pub record AreSeen (seen : EntriesSeen) (texts : List (List ℕ)) : Type 0 where
     pub stand : disk.tells d → (i : ℕ) → i < length seen.read
-        → IsSeen seen.query.looks (disk.contents d) (entry_at seen.way (seen.from + i)) (slice_get seen.read i)
+        → IsSeen seen.query.sees (disk.contents d) (entry_at seen.way (seen.from + i)) (slice_get seen.read i)
     pub count : length texts ≡ length seen.read
     pub become : (i : ℕ) (one : EntryView) → slice_get seen.read i ≡ Some one
         → seen.query.fate (take i seen.read) (seen.from + i) one ≡ Ok (slice_index_or texts i [])

@@ -37,7 +37,7 @@ module _ {O : Type 0} (out : SinkOf O) (fate : Result (List ℕ) Refusal) where
   TextStops _ o o' = ⊥
 
 -- where a run stands: what it asks, what it saw, and the number of the entry that is next
-pub record AtEntry : Type 0 where
+pub record AtEntry : Type 1 where
   pub query : Query
   pub way : Way
   pub read : List EntryView
@@ -51,7 +51,7 @@ module _ {D O : Type 0} (world : OutletsOf D O) (at : AtEntry) where
   pub record TakesEntry (gathers : List EntryView → Type 0) (w w' : Outlets D O) : Type 0 where
     pub seen : EntryView
     pub stands : world.disk.tells w.disk
-        → IsSeen at.query.looks (world.disk.contents w.disk) (entry_at at.way at.number) (Some seen)
+        → IsSeen at.query.sees (world.disk.contents w.disk) (entry_at at.way at.number) (Some seen)
     pub puts : PutsText world.out (at.query.fate at.read at.number seen) w.out w'.out
     pub gathered : gathers (at.read ++ seen ∷ [])
 
@@ -59,7 +59,7 @@ module _ {D O : Type 0} (world : OutletsOf D O) (at : AtEntry) where
   pub record SeenStops (cause : Cause) (w w' : Outlets D O) : Type 0 where
     pub seen : Option EntryView
     pub stands : world.disk.tells w.disk
-        → IsSeen at.query.looks (world.disk.contents w.disk) (entry_at at.way at.number) seen
+        → IsSeen at.query.sees (world.disk.contents w.disk) (entry_at at.way at.number) seen
     pub stops : TextStops world.out (fate_of at.query at.way at.read at.number seen) cause w.out w'.out
 
   -- why an entry was not taken

@@ -4,8 +4,8 @@ use Rattle.lr_catalog.specs.Discards.{gone_line}
 use Rattle.lr_catalog.specs.Files.{check_line}
 use Rattle.lr_causes.specs.declared.cause.Refusal.{Refusal}
 use Rattle.lr_causes.specs.declared.cause.Refusal.TheVariants.{BadChecksum}
-use Rattle.lr_cmd_shelf.specs.Queries.{Query, EntryView, Whole, Wrong, Absent}
-use Rattle.lr_cmd_shelf.specs.Files.{all_entries, no_image}
+use Rattle.lr_cmd_shelf.specs.Queries.{Query, EntryView, Whole, Wrong, Absent, no_image}
+use Rattle.lr_cmd_shelf.specs.Files.{all_entries}
 
 abbrev pub verify_line : ℕ → EntryView → List ℕ
 verify_line number (Whole opened) = check_line number None
@@ -26,7 +26,7 @@ verdict false = Err BadChecksum
 abbrev pub verify_query : Query
 verify_query = record {
   range = all_entries;
-  looks = no_image;
+  sees = no_image;
   fate = λ read number seen. Ok (verify_line number seen);
   last = λ way read. verdict (none_bad read);
   note = λ read. None;

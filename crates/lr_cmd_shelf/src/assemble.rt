@@ -178,8 +178,10 @@ struct AssembleRange {
 }
 
 impl ReadsFiles for AssembleRange {
-    ghost use Rattle.lr_cmd_shelf.specs.Assemble.{assemble_files_query, members_of, skipped_of};
+    ghost use Rattle.std.specs.Prelude.{is_some};
+    ghost use Rattle.lr_cmd_shelf.specs.Assemble.{assemble_files_query, members_of, segment_for_image, skipped_of};
     ghost use Rattle.lr_cmd_shelf.specs.Gathered.{GathersMembers};
+    ghost use Rattle.lr_cmd_shelf.specs.Sights.{images_sight};
 
     type Gathered = Gathering;
 
@@ -188,6 +190,8 @@ impl ReadsFiles for AssembleRange {
     ghost gathers = { λ s gathered read. GathersMembers (members_of s.apid s.image read)
         (skipped_of s.apid s.image read)
         gathered };
+
+    ghost sight = { λ s. images_sight (λ stored. is_some (segment_for_image s.apid s.image stored.file)) };
 
     fn range(&self, count: u64) -> Option<Range> {
         Range::between(self.from, self.to, count)

@@ -16,12 +16,15 @@ use std::alloc::Global;
 struct Exporting;
 
 impl PutsFile for Exporting {
-    ghost use Rattle.std.specs.Prelude.{true};
     ghost use Rattle.lr_cmd_shelf.specs.Export.{export_fate};
+    ghost use Rattle.lr_cmd_shelf.specs.Looking.{each_image};
+    ghost use Rattle.lr_cmd_shelf.specs.Sights.{each_sight};
 
-    ghost looks = { λ s. true };
+    ghost sees = { λ s. each_image };
 
     ghost fate = { λ s number opened. export_fate number opened };
+
+    ghost sight = { λ s. each_sight };
 
     fn looks(&self) -> bool {
         true

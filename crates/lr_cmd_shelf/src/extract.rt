@@ -14,12 +14,15 @@ use std::alloc::Global;
 struct Extracting;
 
 impl PutsFile for Extracting {
-    ghost use Rattle.std.specs.Prelude.{false};
+    ghost use Rattle.lr_cmd_shelf.specs.Queries.{no_image};
     ghost use Rattle.lr_cmd_shelf.specs.Extract.{extract_fate};
+    ghost use Rattle.lr_cmd_shelf.specs.Sights.{no_image_sight};
 
-    ghost looks = { λ s. false };
+    ghost sees = { λ s. no_image };
 
     ghost fate = { λ s number opened. extract_fate number opened };
+
+    ghost sight = { λ s. no_image_sight };
 
     fn looks(&self) -> bool {
         false

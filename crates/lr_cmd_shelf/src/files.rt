@@ -1,7 +1,6 @@
 //! Commands that read whole files.
 ghost use Rattle.std.specs.Prelude.{◌≡◌, ◌≢◌, Err, IfErr, IfOk};
 ghost use Rattle.lr_image.specs.Images.{HasOutcome};
-ghost use Rattle.lr_cmd_shelf.specs.Queries.{IsLooked};
 
 use crate::opened::Opened;
 use crate::range::Range;
@@ -23,6 +22,7 @@ pub trait ReadsFiles {
     ghost use Rattle.lr_shelf.specs.Kept.{kept_by};
     ghost use Rattle.lr_cmd_shelf.specs.declared.opened.Opened.{Opened};
     ghost use Rattle.lr_cmd_shelf.specs.Files.{FileQuery};
+    ghost use Rattle.lr_cmd_shelf.specs.Sights.{SeesIf, SeesImages};
     ghost use Rattle.lr_cmd_shelf.specs.Steps.{PutsText, TextStops};
 
     /// What it gathers of the files.
@@ -46,7 +46,7 @@ pub trait ReadsFiles {
 
     /// Whether it looks at the image of this file.
     fn looks(&self, alloc: Global, stored: &Stored) -> Result<bool, NoMemory>
-        ensures { IfOk result (λ looks. looks ≡ (query self.now).looks stored.now) };
+        ensures { IfOk result (λ looks. SeesIf looks stored.now.file ((query self.now).sees stored.now)) };
 
     /// Puts the text of a file. Memory is taken before the text.
     fn file<O: Sink>(
@@ -92,6 +92,9 @@ pub trait ReadsFiles {
         ensures refuses { (read : List Opened) (refusal : Refusal) → gathers self.now gathered read
             → (query self.now).last (kept_by shelf.now).way read ≡ Err refusal
             → result ≡ Err (Cause.Refused refusal) };
+
+    /// It sees the images that files have, or none.
+    ghost sight: { (command : Self) → SeesImages (query command).sees };
 }
 
 /// What was found of an image, unless memory was refused for that.
@@ -115,8 +118,7 @@ fn outcome_of(alloc: Global, file: &MissionFile) -> Result<Result<Image, ImageFa
 /// A file, with its image or its first fault if the command looks at that.
 fn open<C: ReadsFiles>(alloc: Global, command: &C, stored: Stored) -> Result<Opened, NoMemory>
     ensures same { IfOk result (λ opened. opened.stored ≡ stored) }
-    ensures looked { IfOk result (λ opened.
-        IsLooked ((C.query command.now).looks stored) stored.file opened.image) }
+    ensures seen { IfOk result (λ opened. (C.query command.now).sees stored opened.image) }
 {
     if !command.looks(alloc, &stored)? {
         return Ok(Opened {
@@ -143,6 +145,8 @@ impl<C: ReadsFiles> ReadsEntries for Files<C> {
     ghost query = { λ s. query_of_files (C.query s.0) };
 
     ghost gathers = { λ s gathered read. C.gathers s.0 gathered (files_of read) };
+
+    ghost sight = { λ s. C.sight s.0 };
 
     fn range(&self, count: u64) -> Option<Range> {
         self.0.range(count)

@@ -1,7 +1,7 @@
 //! The commands that read the entries of a shelf, and those that add an item to it: `discard` and `repack`.
 //!
-//! A command that reads the entries of a shelf says what it asks of them, `Query`: their range, at which images it
-//! looks, what becomes of each, a last text, and what it tells of its work. What it does to `out` and to the disk
+//! A command that reads the entries of a shelf says what it asks of them, `Query`: their range, what it sees of images,
+//! what becomes of each entry, a last text, and what it tells of its work. What it does to `out` and to the disk
 //! follows from that by one definition, `RunsOver` of `specs/Runs`, and one loop, `run_entries`, does it. A command
 //! that reads whole files implements `ReadsFiles` and is run by `Files`, which reads the images; one that looks at the
 //! entries in another way implements `ReadsEntries`. A command that adds an item says what it decides of the bytes, an

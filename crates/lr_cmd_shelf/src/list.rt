@@ -53,12 +53,15 @@ struct ListAll;
 
 impl ReadsFiles for ListAll {
     ghost use Rattle.lr_cmd_shelf.specs.List.{list_files_query};
+    ghost use Rattle.lr_cmd_shelf.specs.Sights.{no_image_sight};
 
     type Gathered = ();
 
     ghost query = { λ s. list_files_query };
 
     ghost gathers = { λ s gathered read. Unit {0} };
+
+    ghost sight = { λ s. no_image_sight };
 
     fn range(&self, count: u64) -> Option<Range> {
         Some(Range { from: 0, to: count })

@@ -16,20 +16,23 @@ use std::alloc::Global;
 
 /// What is put of a file, by a command that reads one.
 pub(crate) trait PutsFile {
-    ghost use Rattle.std.specs.Prelude.{◌≡◌, ℕ, Bool, List, Result, Err, IfErr, OnOk};
+    ghost use Rattle.std.specs.Prelude.{◌≡◌, ℕ, List, Result, Err, IfErr, OnOk};
     ghost use Rattle.lr_causes.specs.declared.cause.Refusal.{Refusal as Refusal'};
+    ghost use Rattle.lr_shelf_format.specs.declared.stored.Stored.{Stored};
     ghost use Rattle.lr_cmd_shelf.specs.declared.opened.Opened.{Opened};
+    ghost use Rattle.lr_cmd_shelf.specs.Queries.{Sight};
+    ghost use Rattle.lr_cmd_shelf.specs.Sights.{SeesIf, SeesImages};
     ghost use Rattle.lr_cmd_shelf.specs.Steps.{PutsText, TextStops};
 
-    /// Whether it looks at the image.
-    ghost looks: { Self → Bool };
+    /// What it sees of the image.
+    ghost sees: { Self → Sight };
 
     /// The text of the file of this number, or what the run is refused for.
     ghost fate: { Self → ℕ → Opened → Result (List ℕ) Refusal' };
 
     /// Whether it looks at the image.
     fn looks(&self) -> bool
-        ensures { result ≡ looks self.now };
+        ensures { (stored : Stored) → SeesIf result stored.file (sees self.now stored) };
 
     /// Puts the text of the file. Memory is taken before the text.
     fn put<O: Sink>(
@@ -45,6 +48,9 @@ pub(crate) trait PutsFile {
         // A refusal takes no memory.
         ensures refuses { (refusal : Refusal') → fate self.now number opened.now ≡ Err refusal
             → result ≡ Err (Cause.Refused refusal) };
+
+    /// It sees the images that files have, or none.
+    ghost sight: { (command : Self) → SeesImages (sees command) };
 }
 
 /// The file of this number, and what is put of it. A file that is gone is refused.
@@ -59,9 +65,11 @@ impl<C: PutsFile> ReadsFiles for OneFile<C> {
 
     type Gathered = ();
 
-    ghost query = { λ s. query_of_one (C.looks s.command) (C.fate s.command) s.number };
+    ghost query = { λ s. query_of_one (C.sees s.command) (C.fate s.command) s.number };
 
     ghost gathers = { λ s gathered read. Unit {0} };
+
+    ghost sight = { λ s. C.sight s.command };
 
     fn range(&self, count: u64) -> Option<Range> {
         Range::one(self.number, count)
@@ -104,7 +112,7 @@ pub(crate) fn run_one<C: PutsFile + Drop, D: Disk, O: Sink>(
     out: &mut O,
 ) -> Cause
     ensures { RunsOver (outlets_of D.Disk O.Sink)
-        (query_of_files (query_of_one (C.looks command) (C.fate command) number)) result
+        (query_of_files (query_of_one (C.sees command) (C.fate command) number)) result
         (outlets disk.old out.old) (outlets disk.new out.new) }
 {
     run_entries(alloc, &Files(OneFile { number, command }), disk, out)

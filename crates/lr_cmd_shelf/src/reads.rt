@@ -16,6 +16,7 @@ pub trait ReadsEntries {
     ghost use Rattle.lr_shelf.specs.Kept.{kept_by};
     ghost use Rattle.lr_causes.specs.Outside.{outlet_counts, outlets, outlets_of};
     ghost use Rattle.lr_cmd_shelf.specs.Queries.{Query, EntryView};
+    ghost use Rattle.lr_cmd_shelf.specs.Sights.{SeesImages};
     ghost use Rattle.lr_causes.specs.Counts.{CountsTell, NoneBesides};
     ghost use Rattle.lr_cmd_shelf.specs.Steps.{PutsText, ReadsOnly, TextStops, TakesEntry, EntryStops, standing_at};
 
@@ -82,4 +83,7 @@ pub trait ReadsEntries {
         ensures refuses { (read : List EntryView) (refusal : Refusal) → gathers self.now gathered read
             → (query self.now).last (kept_by shelf.now).way read ≡ Err refusal
             → result ≡ Err (Cause.Refused refusal) };
+
+    /// It sees the images that files have, or none.
+    ghost sight: { (command : Self) → SeesImages (query command).sees };
 }

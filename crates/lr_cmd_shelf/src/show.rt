@@ -28,12 +28,15 @@ fn show_text(alloc: Global, number: u64, stored: &Stored) -> Result<Bytes, NoMem
 struct Showing;
 
 impl PutsFile for Showing {
-    ghost use Rattle.std.specs.Prelude.{false};
+    ghost use Rattle.lr_cmd_shelf.specs.Queries.{no_image};
     ghost use Rattle.lr_cmd_shelf.specs.Show.{show_fate};
+    ghost use Rattle.lr_cmd_shelf.specs.Sights.{no_image_sight};
 
-    ghost looks = { λ s. false };
+    ghost sees = { λ s. no_image };
 
     ghost fate = { λ s number opened. show_fate number opened };
+
+    ghost sight = { λ s. no_image_sight };
 
     fn looks(&self) -> bool {
         false

@@ -66,6 +66,7 @@ struct VerifyAll;
 
 impl ReadsEntries for VerifyAll {
     ghost use Rattle.std.specs.Prelude.{◌≡◌};
+    ghost use Rattle.lr_cmd_shelf.specs.Sights.{no_image_sight};
     ghost use Rattle.lr_cmd_shelf.specs.Verify.{verify_query, none_bad};
 
     /// Whether no checksum was wrong.
@@ -74,6 +75,8 @@ impl ReadsEntries for VerifyAll {
     ghost query = { λ s. verify_query };
 
     ghost gathers = { λ s gathered read. gathered ≡ none_bad read };
+
+    ghost sight = { λ s. no_image_sight };
 
     fn range(&self, count: u64) -> Option<Range> {
         Some(Range { from: 0, to: count })

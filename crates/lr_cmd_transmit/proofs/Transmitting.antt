@@ -25,8 +25,8 @@ use Rattle.lr_causes.specs.Puts.{Puts, PutFails}
 use Rattle.lr_disk.specs.declared.disk.Disk.{Ghosts as DiskOf}
 use Rattle.lr_cmd_shelf.specs.declared.opened.Opened.{Opened}
 use Rattle.lr_cmd_shelf.specs.declared.range.Range.{Range}
-use Rattle.lr_cmd_shelf.specs.Queries.{IsSeen, EntryView, Whole, Wrong, Absent, entry_at}
-use Rattle.lr_cmd_shelf.specs.Files.{files_of, no_image}
+use Rattle.lr_cmd_shelf.specs.Queries.{IsSeen, EntryView, Whole, Wrong, Absent, entry_at, no_image}
+use Rattle.lr_cmd_shelf.specs.Files.{files_of}
 use Rattle.lr_cmd_shelf.specs.Read.{AreSeen, GathersOver, entries_seen}
 use Rattle.lr_cmd_shelf.specs.Steps.{PutsText, TextStops}
 use Rattle.lr_cmd_shelf.proofs.Filing.{files_of-absent, files_of-whole}

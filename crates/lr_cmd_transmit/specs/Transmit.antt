@@ -11,8 +11,8 @@ use Rattle.lr_uplink.specs.Sent.{sent}
 use Rattle.lr_causes.specs.declared.cause.Refusal.{Refusal}
 use Rattle.lr_causes.specs.declared.cause.Refusal.TheVariants.{CannotSend}
 use Rattle.lr_cmd_shelf.specs.declared.opened.Opened.{Opened}
-use Rattle.lr_cmd_shelf.specs.Queries.{Query}
-use Rattle.lr_cmd_shelf.specs.Files.{FileQuery, query_of_files, entries_between, no_image, no_note, no_text}
+use Rattle.lr_cmd_shelf.specs.Queries.{Query, no_image}
+use Rattle.lr_cmd_shelf.specs.Files.{FileQuery, query_of_files, entries_between, no_note, no_text}
 
 -- the block that is sent for a frame: encoded, with this many wrong bytes in each word, and randomised
 abbrev pub block_for : ℕ → List ℕ → List ℕ
@@ -60,7 +60,7 @@ sending from to wrong line = record { from = from; to = to; wrong = wrong; line 
 abbrev pub transmit_files_query : Sending → FileQuery
 transmit_files_query asked = record {
   range = entries_between asked.from asked.to;
-  looks = no_image;
+  sees = no_image;
   fate = λ read n opened. sent_entry_text asked.line asked.wrong (files_read read) opened.stored.file;
   gone = λ n. no_text;
   last = λ way read. no_text;

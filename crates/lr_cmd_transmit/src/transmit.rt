@@ -91,6 +91,7 @@ struct TransmitRange {
 
 impl ReadsEntries for TransmitRange {
     ghost use Rattle.lr_cmd_shelf.specs.Files.{files_of};
+    ghost use Rattle.lr_cmd_shelf.specs.Sights.{no_image_sight};
     ghost use Rattle.lr_cmd_transmit.specs.Standing.{HasSent};
     ghost use Rattle.lr_cmd_transmit.specs.Transmit.{files_read, transmit_query};
 
@@ -99,6 +100,8 @@ impl ReadsEntries for TransmitRange {
     ghost query = { λ s. transmit_query (sending s.from s.to s.wrong s.line) };
 
     ghost gathers = { λ s uplink read. HasSent s.line s.wrong (files_read (files_of read)) uplink };
+
+    ghost sight = { λ s. no_image_sight };
 
     fn range(&self, count: u64) -> Option<Range> {
         Range::between(self.from, self.to, count)

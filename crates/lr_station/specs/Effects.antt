@@ -25,7 +25,7 @@ use Rattle.lr_words.specs.declared.command.FrameLines.TheVariants.{Frames as Eac
 use Rattle.lr_words.specs.declared.command.IntakeAction.TheVariants.{Decode, Receive}
 use Rattle.lr_words.specs.declared.command.ShelfAction.TheVariants.{List as ListAll, Verify}
 
-pub data Effect : Type 0 where
+pub data Effect : Type 1 where
   -- an empty shelf of this many bytes is made
   MakesShelf : (capacity : ℕ) → Effect
   -- lines of the bytes read are put

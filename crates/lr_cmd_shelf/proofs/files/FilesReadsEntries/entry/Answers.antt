@@ -18,7 +18,7 @@ returns-in-Ok-clause-takes g c = λ read few gathered.
     c.get.result c.get.ensures stored
     (subst (λ (r : Result (Option Stored) Cause). IsFileOrGone c.get.result r) given c.file_or_gone.ensures) in
     let stands = opened_stands g.D.Disk (kept_by c.args.shelf.now) c.args.number c.args.disk.now query stored
-    c.in-Ok.opened c.in-Ok.ensures.same c.in-Ok.ensures.looked finds in
+    c.in-Ok.opened c.in-Ok.ensures.same c.in-Ok.ensures.seen finds in
     on_both c.file.result
     (takes_file g.D.Disk g.O.Sink (kept_by c.args.shelf.now) c.args.number c.args.disk.now c.requires.working
     c.requires.there query read c.get.new.disk c.args.out.now c.file.new.out c.in-Ok.opened stands.0 stands.1
@@ -34,7 +34,7 @@ returns-in-Ok-clause-stops g c = λ read gathered.
     c.get.result c.get.ensures stored
     (subst (λ (r : Result (Option Stored) Cause). IsFileOrGone c.get.result r) given c.file_or_gone.ensures) in
     let stands = opened_stands g.D.Disk (kept_by c.args.shelf.now) c.args.number c.args.disk.now query stored
-    c.in-Ok.opened c.in-Ok.ensures.same c.in-Ok.ensures.looked finds in
+    c.in-Ok.opened c.in-Ok.ensures.same c.in-Ok.ensures.seen finds in
     on_err c.file.result
     (stops_file g.D.Disk g.O.Sink (kept_by c.args.shelf.now) c.args.number c.args.disk.now c.requires.working
     c.requires.there query read c.get.new.disk c.args.out.now c.file.new.out c.in-Ok.opened stands.0 stands.1)
