@@ -28,9 +28,10 @@ use Rattle.lr_refusals.specs.Errors.{image_fault}
 use Rattle.lr_cmd_shelf.specs.declared.opened.Opened.{Opened}
 use Rattle.lr_cmd_shelf.specs.Files.{one_entry, query_of_files, query_of_one, refused_for}
 use Rattle.lr_cmd_shelf.specs.Laws.{HasReasons, ExtractHasReasons, HasExportReasons, ExportHasReasons, SaysWhy}
-use Rattle.lr_cmd_shelf.specs.Laws.{HasFirstReasons, OneFilePutsOneText, VerifyHasReasons}
+use Rattle.lr_cmd_shelf.specs.Laws.{HasFirstReasons, OneFilePutsOneText, ShowHasReasons, VerifyHasReasons}
 use Rattle.lr_cmd_shelf.specs.Looking.{each_image}
 use Rattle.lr_cmd_shelf.specs.Sights.{no_image_sight}
+use Rattle.lr_cmd_shelf.specs.Show.{show_text}
 use Rattle.lr_cmd_shelf.specs.Verify.{none_bad, verdict, verify_query}
 use Rattle.lr_cmd_shelf.proofs.Answering.{err_is, some_is, some_or_none}
 use Rattle.lr_cmd_shelf.proofs.Verifying.{none_bad-absent, none_bad-whole, none_bad-wrong}
@@ -133,17 +134,18 @@ module _ (number : ℕ) (bytes : List ℕ) (way : Way) (is : IsWay bytes way) (s
         stopped asked number ranges_are bytes way is there (Some (Wrong stored computed)) BadChecksum found refl;
   }
 
--- ---- `extract`
+-- ---- `extract` and `show`
 
-module _ (number : ℕ) (bytes : List ℕ) (way : Way) (is : IsWay bytes way) where
-  query : Query
-  query = extract_query number
+module _ (text : ℕ → Stored → List ℕ) (number : ℕ) (bytes : List ℕ) (way : Way) (is : IsWay bytes way) where
+  -- what puts such a text of a file
+  abbrev query : ℕ → Query
+  query n = query_of_files (query_of_one no_image (λ m opened. Ok (text m opened.stored)) n)
 
   module _ (there : number < length way.entries) where
     -- what a record with the right checksum is found to be
     not_refused : (entry_at way number).gone ≡ false → HasSoundRecord bytes (entry_at way number)
         → (seen : Option EntryView) → IsSeen no_image bytes (entry_at way number) seen → (refusal : Refusal)
-        → fate_of (extract_query number) way [] number seen ≡ Err refusal → ⊥
+        → fate_of (query number) way [] number seen ≡ Err refusal → ⊥
     not_refused stays sound None stands refusal fate = stands.1 sound.has
     not_refused stays sound (Some (Whole opened)) stands refusal fate = cc (fate)
     not_refused stays sound (Some (Wrong s c)) stands refusal fate =
@@ -151,28 +153,31 @@ module _ (number : ℕ) (bytes : List ℕ) (way : Way) (is : IsWay bytes way) wh
     not_refused stays sound (Some Absent) stands refusal fate = cc (stays, stands)
 
     right_from : (entry_at way number).gone ≡ false → HasSoundRecord bytes (entry_at way number) → (answer : Answer)
-        → AnswersFrom (query_over (extract_query number) bytes way) 1 number [] answer → answer.refusal ≡ None
+        → AnswersFrom (query_over (query number) bytes way) 1 number [] answer → answer.refusal ≡ None
     right_from stays sound answer (inl a) =
         ap (λ (x : Answer). x.refusal) a.is ∙ ap (λ (x : Answer). x.refusal) a.after
     right_from stays sound answer (inr b) =
         absurd (not_refused stays sound b.seen b.stands b.refusal b.fate)
 
-  abbrev one : (count : ℕ) → (extract_query number).range count ≡ one_entry number count
+  abbrev one : (count : ℕ) → (query number).range count ≡ one_entry number count
   one count = refl
 
-  reasons : HasReasons number bytes way
+  reasons : HasReasons query text number bytes way
   reasons = record {
     first = first_reasons number bytes way is no_image _;
     sound = λ there stored stands.
-        put_one (extract_query number) number one bytes way is there (λ read. refl) (plain stored) (stands, tt)
-        (proper_of stored.file) refl;
+        put_one (query number) number one bytes way is there (λ read. refl) (plain stored) (stands, tt)
+        (text number stored) refl;
     right = λ there stays sound answer from.
         right_from there stays sound answer
-        (from_one (extract_query number) number one bytes way is there answer from);
+        (from_one (query number) number one bytes way is there answer from);
   }
 
 pub has_reasons : ExtractHasReasons
-has_reasons number bytes way is = reasons number bytes way is
+has_reasons number bytes way is = reasons (λ n stored. proper_of stored.file) number bytes way is
+
+pub show_has_reasons : ShowHasReasons
+show_has_reasons number bytes way is = reasons show_text number bytes way is
 
 pub one_file_puts_one_text : OneFilePutsOneText
 one_file_puts_one_text looks fate number = record {

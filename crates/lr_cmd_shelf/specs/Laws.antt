@@ -13,6 +13,7 @@ use Rattle.lr_cmd_shelf.specs.Queries.{Query, Answer, EntryView, Sight, entry_at
 use Rattle.lr_cmd_shelf.specs.Queries.{IsRefusedFor, PutsOneText, done_answer, no_image}
 use Rattle.lr_cmd_shelf.specs.Export.{export_query}
 use Rattle.lr_cmd_shelf.specs.Extract.{extract_query}
+use Rattle.lr_cmd_shelf.specs.Show.{show_query, show_text}
 use Rattle.lr_refusals.specs.Errors.{image_fault}
 use Rattle.lr_cmd_shelf.specs.Files.{query_of_files, query_of_one}
 use Rattle.lr_cmd_shelf.specs.declared.opened.Opened.{Opened}
@@ -85,19 +86,25 @@ pub record HasFirstReasons (query : Query) (number : ℕ) (bytes : List ℕ) (wa
   pub bad : number < length way.entries → (stored computed : ℕ)
       → IsFound bytes (entry_at way number) (Some (Bad stored computed)) → IsRefusedFor query bytes BadChecksum
 
--- The reasons of `extract`, and what it puts where there is none.
-pub record HasReasons (number : ℕ) (bytes : List ℕ) (way : Way) : Type 0 where
-  pub first : HasFirstReasons (extract_query number) number bytes way
+-- The reasons of a command that puts this text of a file, and that it puts it where there is none.
+pub record HasReasons (query : ℕ → Query) (text : ℕ → Stored → List ℕ) (number : ℕ) (bytes : List ℕ) (way : Way)
+    : Type 0 where
+  pub first : HasFirstReasons (query number) number bytes way
   pub sound : number < length way.entries → (stored : Stored)
       → IsFound bytes (entry_at way number) (Some (Sound stored))
-      → IsAnswer (extract_query number) bytes (done_answer (proper_of stored.file) None)
+      → IsAnswer (query number) bytes (done_answer (text number stored) None)
   -- whether or not such a record holds a file, nothing is refused for it
   pub right : number < length way.entries → (entry_at way number).gone ≡ false
-      → HasSoundRecord bytes (entry_at way number) → (answer : Answer) → IsAnswer (extract_query number) bytes answer
+      → HasSoundRecord bytes (entry_at way number) → (answer : Answer) → IsAnswer (query number) bytes answer
       → answer.refusal ≡ None
 
 abbrev pub ExtractHasReasons : Type 0
-ExtractHasReasons = (number : ℕ) (bytes : List ℕ) (way : Way) → IsWay bytes way → HasReasons number bytes way
+ExtractHasReasons = (number : ℕ) (bytes : List ℕ) (way : Way) → IsWay bytes way
+    → HasReasons extract_query (λ n stored. proper_of stored.file) number bytes way
+
+abbrev pub ShowHasReasons : Type 0
+ShowHasReasons = (number : ℕ) (bytes : List ℕ) (way : Way) → IsWay bytes way
+    → HasReasons show_query show_text number bytes way
 
 -- Those of `export`, and after them the first fault of a file without an image; and what it puts where the file has
 -- one.

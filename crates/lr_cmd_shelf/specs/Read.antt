@@ -8,7 +8,6 @@ use Rattle.lr_causes.specs.declared.cause.Cause.TheVariants.{Done, DoneWith}
 use Rattle.lr_cmd_shelf.specs.declared.range.Range.{Range}
 use Rattle.lr_cmd_shelf.specs.Queries.{Query, QueryOn, IsSeen, EntryView, entry_at, query_on}
 
--- over every disk; what stands on it is said where it tells its contents
 -- entries that a query saw, from a number on
 pub record EntriesSeen : Type 1 where
   pub query : Query
@@ -19,6 +18,7 @@ pub record EntriesSeen : Type 1 where
 abbrev pub entries_seen : Query → Way → ℕ → List EntryView → EntriesSeen
 entries_seen query way from read = record { query = query; way = way; from = from; read = read }
 
+-- over every disk; what stands on it is said where it tells its contents
 module _ {D : Type 0} (disk : DiskOf D) (d : D) where
   -- these were seen, in their order, and these are their texts
   pub record AreSeen (seen : EntriesSeen) (texts : List (List ℕ)) : Type 0 where

@@ -4,6 +4,7 @@ ghost use Rattle.lr_cmd_shelf.specs.Laws.{
   ExportHasReasons,
   ExtractHasReasons,
   OneFilePutsOneText,
+  ShowHasReasons,
   HasAnAnswer,
   HasOneAnswer,
   VerifyHasReasons,
@@ -27,6 +28,11 @@ pub fn begun_texts_come_first()
 /// What `extract` is refused for, reason by reason, and what it puts.
 pub fn extract_has_reasons()
     ensures { ExtractHasReasons }
+{}
+
+/// What `show` is refused for, reason by reason, and what it puts.
+pub fn show_has_reasons()
+    ensures { ShowHasReasons }
 {}
 
 /// A command on a file's number puts the text of one entry, and nothing else: so do `extract`, `export` and `show`.

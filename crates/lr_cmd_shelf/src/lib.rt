@@ -31,7 +31,7 @@ pub mod verify;
 pub use files::{Files, ReadsFiles};
 pub use laws::{
     begun_texts_come_first, bytes_have_an_answer, bytes_have_one_answer, export_has_reasons,
-    extract_has_reasons, one_file_puts_one_text, verify_has_reasons,
+    extract_has_reasons, one_file_puts_one_text, show_has_reasons, verify_has_reasons,
 };
 pub use opened::Opened;
 pub use pgm::put_pgm;
