@@ -17,31 +17,34 @@ use Rattle.lr_words.specs.declared.command.Command.{Command}
 use Rattle.lr_words.specs.declared.command.Command.TheVariants.{Downlinks, Intake}
 use Rattle.lr_words.specs.declared.command.IntakeAction.TheVariants.{Decode, Receive}
 
+-- the run, where this many work
+abbrev run_by : (mend : ℕ) → Input → (limit workers : ℕ) → InitialShelf → List ℕ → Run
+run_by mend input limit workers initial bytes = record {
+  asked = receive_query mend input workers limit;
+  initial = initial;
+  bytes = bytes;
+}
+
 module _ {S D O : Type 0} {world : World S D O} {mend : ℕ} {input : Input} {w w' : Outside S D O}
     {few many limit : ℕ} (is : IsStricter (leeway_for input few) (leeway_for input many)) where
-  -- the run, where this many work
-  abbrev run_by : ℕ → InitialShelf → List ℕ → Run
-  run_by workers initial bytes = record {
-    asked = receive_query mend input workers limit;
-    initial = initial;
-    bytes = bytes;
-  }
-
-  fewer_wait : {initial : InitialShelf} {bytes : List ℕ} → PutsNoFileOff world (run_by few initial bytes) w w'
-      → PutsNoFileOff world (run_by many initial bytes) w w'
+  fewer_wait : {initial : InitialShelf} {bytes : List ℕ}
+      → PutsNoFileOff world (run_by mend input limit few initial bytes) w w'
+      → PutsNoFileOff world (run_by mend input limit many initial bytes) w w'
   fewer_wait {initial} {bytes} keeps = record {
     timely = λ count come. keeps.timely count (at_end_too input is bytes count come);
     timely_in_bytes = λ count come. keeps.timely_in_bytes count (ahead_too input is bytes count come);
     in_time = when_too world.source
-        (AreInTime (world_outlets world) (run_by few initial bytes) (outlets_in w) (outlets_in w'))
-        (AreInTime (world_outlets world) (run_by many initial bytes) (outlets_in w) (outlets_in w')) bytes
+        (AreInTime (world_outlets world) (run_by mend input limit few initial bytes) (outlets_in w) (outlets_in w'))
+        (AreInTime (world_outlets world) (run_by mend input limit many initial bytes) (outlets_in w) (outlets_in w'))
+        bytes
         w.source w'.source (λ given pieces due count wait may have. due count wait
         (wait_too input is given pieces wait may) (tail_too input is given (count + wait) have)) keeps.in_time;
   }
 
   -- what was there is the same for both
   same_onto : {cause : Cause} {initial : InitialShelf} {bytes : List ℕ}
-      → Receives world (run_by few initial bytes) cause w w' → Receives world (run_by many initial bytes) cause w w'
+      → Receives world (run_by mend input limit few initial bytes) cause w w'
+      → Receives world (run_by mend input limit many initial bytes) cause w w'
   same_onto onto = record {
     held = onto.held;
     any_moment = onto.any_moment;
