@@ -1,14 +1,13 @@
 -- `decode` goes on by one outcome, and what it puts in all.
-use Rattle.std.proofs.Common.{◌≡◌, ◌⊎◌, ℕ, ℤ, ◌+◌, ◌-◌, ◌<◌, ◌≤◌, not, Bool, true, false, List, []}
-use Rattle.std.proofs.Common.{◌∷◌, ◌++◌, length, length-drop, map, take, drop, ap, ◌∙◌, sym, refl}
-use Rattle.std.proofs.Common.{subst, arith, append-nil, inl, inr, ⊎_elim}
+use Rattle.std.proofs.Common.{◌≡◌, ℕ, ℤ, ◌+◌, ◌-◌, ◌≤◌, not, List, []}
+use Rattle.std.proofs.Common.{◌∷◌, ◌++◌, length, take, ap, ◌∙◌, sym, refl}
+use Rattle.std.proofs.Common.{subst, arith}
 use Rattle.std.specs.Prelude.{count_by, cond}
 use Rattle.std.proofs.lemmas.List.{map-append, take-map}
 use lib.Seq.{take-nil}
 use Rattle.std.proofs.lemmas.List.Sums.{count_by-le-length, sum_by-append, sum_by-cons}
 use Rattle.lr_bits.specs.declared.outcome.Outcome.{Outcome}
 use Rattle.lr_conv.specs.Marker.{tail_of}
-use Rattle.lr_conv.specs.declared.line.LineCode.{LineCode}
 use Rattle.lr_lock.specs.declared.frame.Frame.{Frame}
 use Rattle.lr_lock.specs.FramesOf.{frames_of}
 use Rattle.lr_lock.specs.Symbols.{symbols_of}
@@ -34,8 +33,6 @@ use Rattle.lr_reading.proofs.Coming.{no_arrivals, outcomes_are, outcomes_counted
 use Rattle.lr_reading.proofs.Numbered.{numbered_lines-none, numbered_lines-append}
 use Rattle.lr_reading.proofs.Numbered.{numbered_lines-push, numbered_lines-map}
 use Rattle.lr_layers.proofs.Pushing.{both_kinds}
-use Rattle.lr_catalog.specs.Outcomes.{window_line}
-use Rattle.lr_frame.specs.Outcomes.{outcome_in}
 use Rattle.lr_cmd_print.specs.declared.outcome_lines.OutcomeLines.{OutcomeLines}
 use Rattle.lr_cmd_print.specs.Decode.{lines_of_units, lines_of_windows, decode_text, decode_first, decode_last}
 use Rattle.lr_cmd_print.specs.Decode.{decode_count, sums_of, decode_printed}

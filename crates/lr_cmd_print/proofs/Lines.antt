@@ -1,6 +1,6 @@
 -- Lines that are put one after another, and how a command ends that prints them.
 use Rattle.std.proofs.Common.{◌≡◌, ℕ, List, [], ◌∷◌, ◌++◌, length, ap, ◌∙◌, sym, subst, arith}
-use Rattle.std.proofs.Common.{append_assoc, append-nil, refl, length-append, inl, inr, ◌≤◌, ◌<◌, ◌+◌, ◌⊎◌}
+use Rattle.std.proofs.Common.{append_assoc, append-nil, refl, length-append, inl, inr, ◌≤◌, ◌<◌, ◌+◌}
 use Rattle.std.proofs.Common.{⊎_elim, take, drop, Result, IfErr, IsErrAnd}
 use Rattle.std.proofs.lemmas.Bool.{cases_lt}
 use Rattle.std.proofs.lemmas.List.{take-append-drop, take-append-le}
@@ -22,7 +22,7 @@ use Rattle.lr_cmd_print.specs.Printing.{AreSoInTime, Printed, Prints, PrintsAll,
 use Rattle.lr_causes.specs.Puts.{GotFirst, PutStops, Puts}
 use Rattle.lr_cmd_print.specs.Progress.{IsFirstOf, LinesComeFirst, LinesStop, PutsButLast, PutsSome}
 use Rattle.lr_reading.specs.Arrivals.{arrivals_of}
-use Rattle.lr_reading.specs.Readers.{HaveCome, Leeway, MayWait}
+use Rattle.lr_reading.specs.Readers.{HaveCome, Leeway}
 use Rattle.lr_reading.specs.Reading.{IsRead, WhenLastAsked}
 use Rattle.lr_reading.specs.Runs.{ComeInTime, ReadsInput}
 use Rattle.lr_reading.specs.declared.arrival.Arrival.{Arrival}

@@ -40,7 +40,7 @@ use Rattle.lr_cmd_print.specs.declared.packet_count.PacketCount.{PacketCount}
 use Rattle.lr_cmd_print.specs.declared.packet_lines.PacketLines.{PacketLines}
 use Rattle.lr_cmd_print.specs.Added.{lines_added}
 use Rattle.lr_cmd_print.specs.Packets.{frames_read, packets_read, lines_from, lines_of_packets}
-use Rattle.lr_cmd_print.specs.Packets.{packets_text, packets_last, packets_printed}
+use Rattle.lr_cmd_print.specs.Packets.{packets_text, packets_printed}
 use Rattle.lr_cmd_print.specs.PacketsRead.{IsAfter, IsPacketCount}
 use Rattle.lr_cmd_print.specs.PacketsTaken.{restored_frame, frames_in, text_of_packets, PacketsTook, PacketsStopped}
 use Rattle.lr_causes.specs.Outside.{pipe, pipe_of}

@@ -11,7 +11,6 @@ use Rattle.lr_causes.specs.declared.cause.Cause.TheVariants.{Done, Failed, NoMem
 use Rattle.lr_causes.specs.declared.cause.Party.TheVariants.{Source, Output}
 use Rattle.lr_causes.specs.Outside.{Pipe, PipeOf}
 use Rattle.lr_causes.specs.Puts.{GotFirst, PutsPrefix}
-use Rattle.lr_io.specs.declared.sink.Sink.{Ghosts as SinkOf}
 use Rattle.lr_reading.specs.Readers.{HaveCome, Leeway, MayWait}
 use Rattle.lr_reading.specs.Reading.{IsRead, EndsFor, WhenLastAsked}
 

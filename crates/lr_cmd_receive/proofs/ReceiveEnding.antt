@@ -40,7 +40,7 @@ use Rattle.lr_cmd_receive.proofs.Causing.{first_beside, first_done, first_end, f
 use Rattle.lr_cmd_receive.proofs.Changing.{change_for}
 use Rattle.lr_cmd_receive.specs.Onto.{ChangesFor}
 use Rattle.lr_cmd_receive.proofs.ShelvedLines.{shelved_lines-none}
-use Rattle.lr_causes.specs.Outside.{outlets, outside, outlets_in, world_outlets, Outlets, OutletsOf, World, Outside}
+use Rattle.lr_causes.specs.Outside.{outlets, outside, world_outlets, Outlets, OutletsOf, World, Outside}
 use Rattle.lr_shelf.proofs.InitialPrefixes.{front_none}
 
 -- the last line tells what was read and counted

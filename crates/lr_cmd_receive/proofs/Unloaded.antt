@@ -1,6 +1,6 @@
 -- What `receive` comes to where the shelf was not loaded.
 use Rattle.std.proofs.Common.{◌≡◌, inl, inr, false, ℕ, List, [], refl, sym, ◌∙◌, ap, subst, arith}
-use Rattle.std.proofs.Common.{Result, Ok, Err, IfOk, MatchResult, OnOk, append-nil, length, ⊎_elim}
+use Rattle.std.proofs.Common.{Result, Ok, Err, IfOk, MatchResult, OnOk, length, ⊎_elim}
 use Rattle.lr_bits.specs.declared.placed.Placed.{Placed}
 use Rattle.lr_bits.proofs.Telling.{tells_both, tells_still}
 use Rattle.lr_disk.specs.Reads.{IsOnlyRead}

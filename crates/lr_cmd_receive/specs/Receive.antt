@@ -7,7 +7,6 @@ use Rattle.lr_disk.specs.Pending.{EachImageSince, NothingPending}
 use Rattle.lr_layers.specs.Layers.{CountsView, mended_numbers_of}
 use Rattle.lr_shelf_format.specs.Way.{IsNoShelfAt, IsWay, Way}
 use Rattle.lr_forms.specs.declared.forms.Stop.{Stop}
-use Rattle.lr_forms.specs.declared.forms.Stop.TheVariants.{End, Limit, Fault}
 use Rattle.lr_catalog.specs.declared.summary.Summary.TheVariants.{Receive}
 use Rattle.lr_catalog.specs.Summaries.{summary_line}
 use Rattle.lr_causes.specs.Puts.{GotPart, GotText}
@@ -22,7 +21,7 @@ use Rattle.lr_causes.specs.Outside.{TellOn, outlets_in, world_outlets}
 use Rattle.lr_causes.specs.Counts.{CountsTell}
 use Rattle.lr_cmd_receive.specs.First.{SourceBesides}
 use Rattle.lr_reading.specs.Inputs.{outcomes_of_bytes, bytes_left_over}
-use Rattle.lr_reading.specs.Readers.{HaveCome, Leeway, MayWait, leeway_for}
+use Rattle.lr_reading.specs.Readers.{HaveCome, MayWait, leeway_for}
 use Rattle.lr_cmd_receive.specs.Inputs.{files_of_bytes}
 use Rattle.lr_cmd_receive.specs.Noted.{NotedFile, noted_of_outcomes, placed_files}
 use Rattle.lr_cmd_receive.specs.Onto.{ChangesFor, IsFullWith}

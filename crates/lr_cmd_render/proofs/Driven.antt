@@ -1,11 +1,10 @@
 -- What a call comes to that leads a pool through the entries of a shelf.
-use Rattle.std.proofs.Common.{◌≡◌, ◌<◌, List, ℕ, [], false, None, Result, Ok, Err, IfOk, IfErr, refl, subst}
+use Rattle.std.proofs.Common.{◌≡◌, ◌<◌, List, ℕ, [], false, None, Result, Ok, Err, IfOk, IfErr}
 use Rattle.std.specs.VecDeque.{deque_capacity}
 use Rattle.lr_io.specs.declared.sink.Sink.{Ghosts as SinkOf}
 use Rattle.lr_disk.specs.declared.disk.Disk.{Ghosts as DiskOf}
 use Rattle.lr_shelf.specs.Kept.{kept_by}
 use Rattle.lr_causes.specs.declared.cause.Cause.{Cause}
-use Rattle.lr_causes.specs.declared.cause.Cause.TheVariants.{NoMemory}
 use Rattle.lr_rounds.specs.JobSources.{EndsWell, IsDriveFault, led}
 use Rattle.lr_rounds.specs.declared.drive_fault.DriveFault.{DriveFault}
 use Rattle.lr_rounds.specs.declared.drive_fault.DriveFault.TheVariants.{NoMemory as Unpaid, Stopped}

@@ -1,10 +1,9 @@
 -- What a command that adds an item does, by what it read before and what adding the item answered.
-use Rattle.std.proofs.Common.{◌≡◌, ◌⊎◌, inl, inr, ℕ, false, Result, Ok, Err, IfOk, IfErr, OnOk, List}
+use Rattle.std.proofs.Common.{◌≡◌, ◌⊎◌, inl, inr, ℕ, Result, Ok, Err, IfErr, List}
 use Rattle.std.proofs.Common.{ap, ◌∙◌, sym, subst}
 use Rattle.lr_disk.specs.Disk.{LeavesOnly}
 use Rattle.lr_disk.specs.Reads.{IsOnlyRead, IsUnwritten}
 use Rattle.lr_disk.specs.declared.disk.Disk.{Ghosts as DiskOf}
-use Rattle.lr_disk.specs.Pending.{NothingPending}
 use Rattle.lr_disk.proofs.Moments.{only_read_joined}
 use Rattle.lr_shelf_format.specs.Items.{Item}
 use Rattle.lr_shelf_format.specs.ShelfBytes.{StandsForShelf}
@@ -15,7 +14,7 @@ use Rattle.lr_shelf.specs.Calls.{IsFaultCounted}
 use Rattle.lr_shelf.specs.Kept.{KeptShelf, kept_by, shelf_on}
 use Rattle.lr_shelf.proofs.Loaded.{IsReady}
 use Rattle.lr_shelf.specs.Read.{Gets}
-use Rattle.lr_shelf.specs.Shelf.{IsDurable, IsSettled, KeepsWay}
+use Rattle.lr_shelf.specs.Shelf.{KeepsWay}
 use Rattle.lr_shelf.specs.declared.shelf.Shelf.{Shelf}
 use Rattle.lr_shelf.specs.declared.error.ShelfError.{ShelfError}
 use Rattle.lr_shelf.specs.declared.error.ShelfError.TheVariants.{Disk as Disk'}

@@ -23,7 +23,6 @@ use Rattle.lr_cmd_shelf.specs.Queries.{AnswersIn, AnswersOn, IsAnswer, IsRefused
 use Rattle.lr_cmd_shelf.specs.Queries.{EntryView, Whole, Wrong, Absent, done_answer, plain}
 use Rattle.lr_cmd_shelf.specs.Queries.{refused_answer, query_over, Sight, no_image}
 use Rattle.lr_cmd_shelf.specs.Export.{export_query}
-use Rattle.lr_cmd_shelf.specs.Extract.{extract_query}
 use Rattle.lr_refusals.specs.Errors.{image_fault}
 use Rattle.lr_cmd_shelf.specs.declared.opened.Opened.{Opened}
 use Rattle.lr_cmd_shelf.specs.Files.{one_entry, query_of_files, query_of_one, refused_for}

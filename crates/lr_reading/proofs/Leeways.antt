@@ -1,10 +1,8 @@
 -- Where fewer frames may wait, and where more may.
 use Rattle.std.proofs.Common.{◌≡◌, ◌≤◌, ◌+◌, ◌-◌, ◌*◌, ◌==◌, if◌then◌else◌, ℕ, Bool, true, false, List, length, take}
-use Rattle.std.proofs.Common.{refl, sym, subst, arith, inl, inr, ⊎_elim, ◌++◌, drop}
+use Rattle.std.proofs.Common.{refl, subst, arith, inl, inr, ⊎_elim, drop}
 use Rattle.std.specs.Prelude.{All}
-use Rattle.lr_bits.specs.declared.sizes.TheConstants.{FRAME_SYMBOLS}
 use Rattle.lr_conv.specs.Marker.{tail_of}
-use Rattle.lr_conv.specs.declared.line.LineCode.{LineCode}
 use Rattle.lr_forms.specs.declared.forms.Input.{Input}
 use Rattle.lr_forms.specs.declared.forms.Input.TheVariants.{Symbols, Units}
 use Rattle.lr_forms.specs.declared.forms.UnitForm.{UnitForm}
@@ -12,7 +10,6 @@ use Rattle.lr_forms.specs.declared.forms.UnitForm.TheVariants.{Blocks, Frames}
 use Rattle.lr_lock.specs.Frames.{place_after_frame}
 use Rattle.lr_lock.specs.FramesOf.{frames_of}
 use Rattle.lr_lock.specs.Symbols.{symbols_of}
-use Rattle.lr_lock.specs.Thresholds.{lock_symbols}
 use Rattle.lr_lock.specs.declared.frame.Frame.{Frame}
 use Rattle.lr_reading.specs.Inputs.{unit_bytes}
 use Rattle.lr_reading.specs.Readers.{HaveCome, Leeway, MayWait, leeway_for, windows_for}

@@ -1,5 +1,5 @@
 -- A command that may not change the shelf only reads the disk.
-use Rattle.std.proofs.Common.{◌≡◌, ◌⊎◌, inl, inr, false, ℕ, List, Option, Some, None, refl, sym, subst}
+use Rattle.std.proofs.Common.{◌≡◌, inl, inr, false, ℕ, List, Option, Some, None, refl, sym, subst}
 use Rattle.lr_causes.specs.declared.cause.Cause.{Cause}
 use Rattle.lr_causes.specs.Outside.{Outside, World}
 use Rattle.lr_disk.specs.Reads.{IsOnlyRead}
@@ -15,7 +15,7 @@ use Rattle.lr_words.specs.declared.command.FrameLines.TheVariants.{Frames as Eac
 use Rattle.lr_words.specs.declared.command.IntakeAction.TheVariants.{Decode, Receive}
 use Rattle.lr_words.specs.declared.command.ShelfAction.TheVariants.{List as ListAll, Verify}
 use Rattle.lr_station.specs.Effects.{effect_of}
-use Rattle.lr_station.specs.Runs.{HasEffect, Runs, RunsOrNot, StopsAtOnce}
+use Rattle.lr_station.specs.Runs.{HasEffect, Runs, RunsOrNot}
 
 module _ {S D O : Type 0} (world : World S D O)
     (only_now : (d : D) (c : List ℕ) → world.disk.tells d → world.disk.left_since d (world.disk.moment d) c
