@@ -16,6 +16,7 @@ from files import Draw, crc16, files, is_file
 COUNTS = 16384
 MOST_BODY = 65534
 MOST_BYTES = 67108864
+MOST_FILLERS = 1023
 
 Packet = tuple[int, int, int, int, bytes]
 
@@ -110,7 +111,10 @@ def gap_of(most: int, image: Image, packet: Packet) -> Gap:
     needed = max(1, -(-image.wanted // unit))
     over = needed <= missing
     number = min(missing, needed)
-    if not filling or (flags in (1, 3) and not over) or image.fillers + number > most:
+    begins = flags in (1, 3)
+    goes_back = not begins and missing >= COUNTS - (MOST_FILLERS + 1)
+    closes = goes_back or (image.coded and image.first) if over else begins
+    if not filling or closes or image.fillers + number > most:
         number = 0
     made = filling if image.coded else bytes(len(filling))
     counts = [(image.count + 1 + place) % COUNTS for place in range(number)]
@@ -334,6 +338,16 @@ def check() -> None:
     assert gaps(1, key((1, 5, coded), (0, 6, b"d"), (3, 9, image))) == [(2, 7, b"d")]
     assert gaps(16, key((1, 5, coded_long), (0, 7, b"d"), (0, 9, a))) == [(0, 6, b"d"), (0, 8, b"d")]
     assert gaps(16, key((1, 5, image), (0, 6, a), (0, 7, b))) == []
+    # only the first packet came: lines that are coded would be those of the body that follows
+    assert gaps(16, key((1, 5, coded), (0, 60, b"d"))) == []
+    assert gaps(16, key((1, 5, image), (0, 60, c))) == [(0, n, zeros) for n in (6, 7, 8)] + [(2, 9, zeros)]
+    # a count that goes back, by 1,024 at most
+    assert gaps(3, key((1, 0, image), (0, 1, a), (0, 1, a), (2, 3, z))) == []
+    assert gaps(3, key((1, 0, image), (0, 1, a), (0, 15362, b))) == []
+    assert gaps(3, key((1, 0, image), (0, 1, a), (2, 15362, b))) == []
+    far = [(0, 2, zeros), (0, 3, zeros), (2, 4, zeros)]
+    assert gaps(3, key((1, 0, image), (0, 1, a), (0, 15361, b))) == far
+    assert gaps(3, key((1, 0, image), (0, 1, a), (3, 1, b))) == far
     # too few are missing for the end, no body of between, and none with a byte in it
     assert gaps(16, key((1, 5, image), (0, 6, a), (3, 8, image))) == []
     assert gaps(16, key((1, 7, image), (2, 9, z))) == []

@@ -54,6 +54,8 @@ impl<'a> Model for BitReader<'a> {
 const SHOWN: u64 = 57;
 
 impl<'a> BitReader<'a> {
+    ghost use Rattle.lr_bits.specs.declared.reader.TheConstants.{SHOWN};
+
     /// All bits of these bytes, each byte's most significant one first.
     pub fn new(bytes: &'a [u8]) -> Self
         requires { length bytes.now < 2 ^ 61 }
@@ -130,7 +132,7 @@ impl<'a> BitReader<'a> {
         ensures value { self.old ≡ number_bits width result ++ self.new }
         ensures fits { result < 2 ^ width }
     {
-        let number = self.front() >> 7 >> (57 - width);
+        let number = self.front() >> 7 >> (SHOWN as u32 - width);
         self.skip(u64::from(width));
         number
     }
@@ -160,9 +162,9 @@ impl<'a> BitReader<'a> {
     /// How many zeros `front` shows before the first one.
     #[inline(always)]
     fn zeros_ahead(&self) -> u64
-        ensures zeros { (i : ℕ) → i < result → i < 57 → slice_index self.now i ≡ 0 }
+        ensures zeros { (i : ℕ) → i < result → i < SHOWN → slice_index self.now i ≡ 0 }
         ensures few { result ≤ 64 }
-        ensures one { result < 57 → slice_index self.now result ≡ 1 }
+        ensures one { result < SHOWN → slice_index self.now result ≡ 1 }
     {
         u64::from(self.front().leading_zeros())
     }
@@ -170,7 +172,7 @@ impl<'a> BitReader<'a> {
     /// The next bits, the first of them highest: at least 57 of them, or zeros after the last one.
     #[inline(always)]
     fn front(&self) -> u64
-        ensures { number_bits 57 (result / 2 ^ 7) ≡ first_bits 57 self.now }
+        ensures { number_bits SHOWN (result / 2 ^ 7) ≡ first_bits SHOWN self.now }
     {
         word_at(self.bytes, (self.at / 8) as usize) << (self.at % 8)
     }

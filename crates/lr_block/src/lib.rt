@@ -10,7 +10,8 @@
 //! sequence or takes it away. `restore_block` restores all four words or names the first that has no codeword within
 //! sixteen bytes, and `information` is the frame of a block. `outcome_of` does all that for a block as it is
 //! received. The layers above rest on the function `outcome_of_block` of specs/Outcomes; `outcome_is_the_one` says
-//! that it is the outcome as `IsOutcome` has it, for each block the only one. Nothing here takes memory.
+//! that it is the outcome as `IsOutcome` has it, for each block the only one. `take_word` and `put_word` copy one word.
+//! Nothing here takes memory.
 #![tactic(auto)]
 
 mod encoding;
@@ -25,3 +26,4 @@ pub use frames::information;
 pub use outcome::{outcome_is_the_one, outcome_of, restored_is_found, sent_is_received};
 pub use randomiser::{derandomise, randomised_twice_is_the_same};
 pub use restoring::{BlockLost, restore_block};
+pub use words::{put_word, take_word};

@@ -8,7 +8,7 @@ use lr_bits::BLOCK_BYTES;
 use lr_rs::WORD_BYTES;
 
 /// Copies a word out of a block.
-pub(crate) fn take_word(block: &[u8; BLOCK_BYTES], k: usize, word: &mut [u8; WORD_BYTES])
+pub fn take_word(block: &[u8; BLOCK_BYTES], k: usize, word: &mut [u8; WORD_BYTES])
     requires { k < 4 }
     ensures { word.new ≡ word_of block.now k }
 {
@@ -18,7 +18,7 @@ pub(crate) fn take_word(block: &[u8; BLOCK_BYTES], k: usize, word: &mut [u8; WOR
 }
 
 /// Copies a word into a block.
-pub(crate) fn put_word(block: &mut [u8; BLOCK_BYTES], k: usize, word: &[u8; WORD_BYTES])
+pub fn put_word(block: &mut [u8; BLOCK_BYTES], k: usize, word: &[u8; WORD_BYTES])
     requires { k < 4 }
     ensures put { word_of block.new k ≡ word.now }
     ensures kept { (j : ℕ) → j < 4 → j ≢ k → word_of block.new j ≡ word_of block.old j }

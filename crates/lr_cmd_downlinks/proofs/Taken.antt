@@ -2,6 +2,7 @@
 use Rattle.std.proofs.Common.{◌≡◌, ◌≤◌, ℕ, List, [], ◌++◌, length, refl, sym, ap, ◌∙◌, inl, inr, Result, Ok, Err, IfErr}
 use Rattle.std.proofs.Common.{append_assoc, append-nil, ◌<◌, subst}
 use Rattle.lr_bits.specs.declared.refusals.Failed.{Failed}
+use Rattle.lr_bits.specs.declared.sizes.TheConstants.{FRAME_SYMBOLS}
 use Rattle.lr_bits.specs.Telling.{KeepsTelling}
 use Rattle.lr_bits.proofs.Telling.{tells_still}
 use Rattle.lr_io.specs.declared.source.Source.{Ghosts as SourceOf}
@@ -37,8 +38,9 @@ module _ {S : Type 0} (source : SourceOf S) where
       (given : HasGiven answer piece) where
     -- a piece more
     pub took_more : (source.tells s1 → source.left s1 ≡ piece ++ source.left s2)
-        → source.faults s2 ≡ source.faults s1 → 0 < length piece → HasTaken (bytes ++ piece) s s2
-    took_more moved same some = record {
+        → source.faults s2 ≡ source.faults s1 → 0 < length piece → length piece ≤ FRAME_SYMBOLS
+        → HasTaken (bytes ++ piece) s s2
+    took_more moved same some short = record {
       tell = record { told = λ t. told (so.tell.told t); untold = λ t. so.tell.untold (untold t) };
       moved = λ t. so.moved t ∙ ap (λ (l : List ℕ). bytes ++ l) (moved (so.tell.told t))
           ∙ sym (append_assoc bytes piece (source.left s2));
@@ -46,7 +48,7 @@ module _ {S : Type 0} (source : SourceOf S) where
       asked = inr (last_one source (λ given pieces. Unit {0}) bytes piece (bytes ++ piece) s s1 s2 so.moved so.came
           (gave source s1 s2 answer piece asked given) refl tt);
       came = came_on source bytes piece s s1 s2 so.came
-          (came_once source piece s1 s2 (gave source s1 s2 answer piece asked given) some same);
+          (came_once source piece s1 s2 (gave source s1 s2 answer piece asked given) some short same);
     }
 
     -- the source ended, or failed: nothing was taken
@@ -62,10 +64,10 @@ module _ {S : Type 0} (source : SourceOf S) where
 
     -- memory was refused for it
     pub wants_more : (source.tells s1 → source.left s1 ≡ piece ++ source.left s2)
-        → source.faults s2 ≡ source.faults s1 → 0 < length piece → length (bytes ++ piece) ≤ most_taken
-        → TakingWantsMemory source s s2
-    wants_more moved same some few =
-        let more = took_more moved same some in
+        → source.faults s2 ≡ source.faults s1 → 0 < length piece → length piece ≤ FRAME_SYMBOLS
+        → length (bytes ++ piece) ≤ most_taken → TakingWantsMemory source s s2
+    wants_more moved same some short few =
+        let more = took_more moved same some short in
         record { bytes = bytes ++ piece; read = is_read (bytes ++ piece) s s2 more few; count = more.count }
 
 pub always_refused : {T E A : Type 0} (r : Result T E) → A → IfErr r (λ _. A)

@@ -59,8 +59,9 @@ text_more arrivals arrival place is =
 -- the text of all that comes is that of the bytes
 text_of_all : (input : Input) (bytes : List ℕ) → text_of_outcomes (arrivals_of input bytes) ≡ decode_text input bytes
 unfolding arrivals_of arrivals_of_units lines_of_units lines_of_windows
-text_of_all (Symbols line) bytes =
-    numbered_lines-map line_of (arrival_in line (symbols_of bytes)) 0 (frames_of (tail_of line) (symbols_of bytes))
+text_of_all (Symbols decoding) bytes =
+    numbered_lines-map line_of (arrival_in decoding (symbols_of bytes)) 0
+    (frames_of (tail_of decoding.line) (symbols_of bytes))
 text_of_all (Units form) bytes =
     numbered_lines-map line_of (λ (unit : List ℕ). arrival_of (outcome_of_unit form unit)) 0
     (units_of (unit_bytes form) bytes)
@@ -80,11 +81,11 @@ text_grows arrivals first rest is =
 pub text_of_first : (input : Input) (given : List ℕ) (count : ℕ)
     → text_of_outcomes (take count (arrivals_of input given)) ≡ decode_first input given count
 unfolding arrivals_of arrivals_of_units lines_of_units lines_of_windows
-text_of_first (Symbols line) given count =
+text_of_first (Symbols decoding) given count =
     let symbols : List ℤ = symbols_of given in
-    let frames : List Frame = frames_of (tail_of line) symbols in
-    ap (λ (l : List Arrival). text_of_outcomes l) (take-map (arrival_in line symbols) count frames)
-    ∙ numbered_lines-map line_of (arrival_in line symbols) 0 (take count frames)
+    let frames : List Frame = frames_of (tail_of decoding.line) symbols in
+    ap (λ (l : List Arrival). text_of_outcomes l) (take-map (arrival_in decoding symbols) count frames)
+    ∙ numbered_lines-map line_of (arrival_in decoding symbols) 0 (take count frames)
 text_of_first (Units form) given count =
     let units : List (List ℕ) = units_of (unit_bytes form) given in
     let arrives : List ℕ → Arrival = λ (unit : List ℕ). arrival_of (outcome_of_unit form unit) in

@@ -8,14 +8,14 @@ use Rattle.lr_catalog.specs.declared.summary.Summary.TheVariants.{Decode}
 use Rattle.lr_catalog.specs.Outcomes.{block_line, window_line}
 use Rattle.lr_catalog.specs.Summaries.{summary_line}
 use Rattle.lr_conv.specs.Marker.{tail_of}
-use Rattle.lr_conv.specs.declared.line.LineCode.{LineCode}
 use Rattle.lr_lock.specs.FramesOf.{frames_of}
 use Rattle.lr_lock.specs.declared.frame.Frame.{Frame}
 use Rattle.lr_lock.specs.Symbols.{symbols_of}
-use Rattle.lr_frame.specs.Outcomes.{outcome_in}
 use Rattle.lr_forms.specs.declared.forms.UnitForm.{UnitForm}
+use Rattle.lr_forms.specs.declared.forms.Decoding.{Decoding}
 use Rattle.lr_forms.specs.declared.forms.Input.{Input}
 use Rattle.lr_forms.specs.declared.forms.Input.TheVariants.{Symbols, Units}
+use Rattle.lr_reading.specs.Arrivals.{decoded_in}
 use Rattle.lr_reading.specs.Inputs.{unit_bytes, outcome_of_unit, outcomes_of_bytes, bytes_left_over}
 use Rattle.lr_reading.specs.Lines.{numbered_lines}
 use Rattle.lr_reading.specs.Readers.{leeway_for}
@@ -29,21 +29,21 @@ lines_of_units form units =
     numbered_lines (λ place unit. block_line place (outcome_of_unit form unit)) 0 units
 
 -- the lines of the windows of these frames of some symbols, each numbered by its place among the frames
-unfoldable pub lines_of_windows : LineCode → List ℤ → List Frame → List ℕ
-lines_of_windows line symbols frames =
+unfoldable pub lines_of_windows : Decoding → List ℤ → List Frame → List ℕ
+lines_of_windows decoding symbols frames =
     numbered_lines (λ place (frame : Frame).
-    window_line place frame.place frame.positive (outcome_in line symbols frame)) 0 frames
+    window_line place frame.place frame.positive (decoded_in decoding symbols frame)) 0 frames
 
 -- a line for the window of each frame of the symbols, or for each whole block
 abbrev pub decode_text : Input → List ℕ → List ℕ
-decode_text (Symbols line) bytes =
-    lines_of_windows line (symbols_of bytes) (frames_of (tail_of line) (symbols_of bytes))
+decode_text (Symbols decoding) bytes =
+    lines_of_windows decoding (symbols_of bytes) (frames_of (tail_of decoding.line) (symbols_of bytes))
 decode_text (Units form) bytes = lines_of_units form (units_of (unit_bytes form) bytes)
 
 -- the lines of the first windows or blocks, this many
 abbrev pub decode_first : Input → List ℕ → (count : ℕ) → List ℕ
-decode_first (Symbols line) bytes count =
-    lines_of_windows line (symbols_of bytes) (take count (frames_of (tail_of line) (symbols_of bytes)))
+decode_first (Symbols decoding) bytes count =
+    lines_of_windows decoding (symbols_of bytes) (take count (frames_of (tail_of decoding.line) (symbols_of bytes)))
 decode_first (Units form) bytes count = lines_of_units form (take count (units_of (unit_bytes form) bytes))
 
 -- what the last line tells, where this many of the frames or blocks read were restored

@@ -1,5 +1,5 @@
 -- The files of a trial's symbols fit its shelf.
-use Rattle.std.proofs.Common.{◌≡◌, ℕ, ◌+◌, ◌*◌, ◌<◌, ◌≤◌, false, List, [], ◌∷◌, map, length, replicate}
+use Rattle.std.proofs.Common.{ℤ, ◌≡◌, ℕ, ◌+◌, ◌*◌, ◌<◌, ◌≤◌, false, List, [], ◌∷◌, map, length, replicate}
 use Rattle.std.proofs.Common.{refl, sym, ◌∙◌, ap, arith}
 use Rattle.std.proofs.Common.{append-nil}
 use Rattle.std.specs.Int.{cast_unsigned, w8}
@@ -9,7 +9,9 @@ use Rattle.lr_bits.specs.declared.placed.Placed.{Placed}
 use Rattle.lr_bits.specs.declared.sizes.TheConstants.{FRAME_SYMBOLS}
 use Rattle.lr_conv.specs.Convolution.{code}
 use Rattle.lr_conv.specs.declared.line.TheConstants.{STANDARD}
-use Rattle.lr_frame.specs.Outcomes.{outcomes_of_symbols}
+use Rattle.lr_conv.specs.declared.passes.Passes.TheVariants.{One}
+use Rattle.lr_frame.specs.Outcomes.{outcomes_of_symbols, redecoded_outcomes}
+use Rattle.lr_frame.proofs.Passing.{one_pass_of_all}
 use Rattle.lr_layers.specs.Origins.{placed_of_outcomes}
 use Rattle.lr_lock.specs.Symbols.{symbols_of}
 use Rattle.lr_make.specs.Blocks.{block_at}
@@ -57,7 +59,8 @@ files_made : (start wrong n : ℕ) → ((k : ℕ) → k < n → IsReceivedAs wro
     ≡ placed_of_outcomes (made_outcomes start wrong n)
 unfolding files_of_bytes outcomes_of_bytes
 files_made start wrong n received =
-    placed_are 0 (outcomes_of_symbols STANDARD (symbols_of (made_bytes AsSymbols (test_frames start n wrong))))
+    let symbols : List ℤ = symbols_of (made_bytes AsSymbols (test_frames start n wrong)) in
+    placed_are 0 (redecoded_outcomes STANDARD One symbols) ∙ ap placed_of_outcomes (one_pass_of_all STANDARD symbols)
     ∙ ap (λ s. placed_of_outcomes (outcomes_of_symbols STANDARD s)) (symbols_made start wrong n)
     ∙ ap placed_of_outcomes (stream_is_received start wrong n received)
 

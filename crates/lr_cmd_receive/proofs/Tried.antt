@@ -8,7 +8,7 @@ use Rattle.lr_causes.specs.declared.cause.Cause.{Cause}
 use Rattle.lr_causes.specs.declared.cause.Cause.TheVariants.{Done, Failed, NoMemory, Refused}
 use Rattle.lr_causes.specs.declared.cause.Party.TheVariants.{Source, Disk, Output}
 use Rattle.lr_cmd_receive.specs.declared.receive_counts.ReceiveCounts.{ReceiveCounts}
-use Rattle.lr_conv.specs.declared.line.TheConstants.{STANDARD}
+use Rattle.lr_cmd_receive.specs.declared.test_stream.TheConstants.{TEST_DECODING}
 use Rattle.lr_forms.specs.declared.forms.Input.TheVariants.{Symbols}
 use Rattle.lr_causes.specs.Causes.{counts}
 use Rattle.lr_cmd_receive.specs.Receive.{receive_last}
@@ -48,7 +48,7 @@ module _ {D O : Type 0} (disk : DiskOf D) (out : SinkOf O) (symbols : List ℕ) 
     any_moment = done.any_moment;
   }
 
-  module _ (sums : ReceiveCounts) (line : sums_line sums ≡ receive_last 0 (Symbols STANDARD) symbols End) where
+  module _ (sums : ReceiveCounts) (line : sums_line sums ≡ receive_last 0 (Symbols TEST_DECODING) symbols End) where
     pub last_stops : (cause : Cause) → LastStops out sums cause o o'
         → Fills (outlets_of disk out) symbols cause (outlets d o) (outlets d' o')
     last_stops (Failed Output) stops = record {

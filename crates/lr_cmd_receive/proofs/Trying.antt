@@ -27,7 +27,7 @@ use Rattle.lr_causes.specs.declared.cause.Cause.TheVariants.{Done, Failed, NoMem
 use Rattle.lr_causes.specs.declared.cause.Party.TheVariants.{Disk, Output}
 use Rattle.lr_causes.specs.declared.cause.Refusal.TheVariants.{NotAShelf, Capacity}
 use Rattle.lr_cmd_receive.specs.declared.receive_counts.ReceiveCounts.{ReceiveCounts}
-use Rattle.lr_conv.specs.declared.line.TheConstants.{STANDARD}
+use Rattle.lr_cmd_receive.specs.declared.test_stream.TheConstants.{TEST_DECODING}
 use Rattle.lr_forms.specs.declared.forms.Input.TheVariants.{Symbols}
 use Rattle.lr_causes.specs.Causes.{counts}
 use Rattle.lr_refusals.specs.Errors.{cause_of}
@@ -253,7 +253,7 @@ module _ {D : Type 0} (disk : DiskOf D) (symbols : List ℕ) (d1 : D)
       module _ (calm : Rose (source.faults s) (source.faults s') → ⊥)
           (fit : end_of (with_files [] (trial_files symbols)) ≤ trial_capacity)
           (workers : ℕ) (cause : Cause)
-          (some : ReadsSome (world_of source disk out) (receive_query 0 (Symbols STANDARD) workers limit) cause
+          (some : ReadsSome (world_of source disk out) (receive_query 0 (Symbols TEST_DECODING) workers limit) cause
           (shelf_in shelf (outside s d2 o)) (outside s' d' o')) where
         split : symbols ≡ some.bytes ++ source.left s'
         split = split_of some.bytes some.read
@@ -263,7 +263,7 @@ module _ {D : Type 0} (disk : DiskOf D) (symbols : List ℕ) (d1 : D)
         come_first =
             let few_read : length some.bytes < limit =
             omega (arith, few, ap length split, length-append some.bytes (source.left s')) in
-            let first = some.first STANDARD refl given few_read calm in
+            let first = some.first TEST_DECODING refl given few_read calm in
             (placed_files first.0, ap trial_files split ∙ placed_split some.files first.0 first.1)
 
         -- and all of them fit
@@ -336,7 +336,7 @@ module _ {D : Type 0} (disk : DiskOf D) (symbols : List ℕ) (d1 : D)
 
       -- all of them are shelved
       module _ (workers : ℕ) (sums : ReceiveCounts) (shelf' : Shelf)
-          (all : ReadsAll (world_of source disk out) (receive_query 0 (Symbols STANDARD) workers limit) sums
+          (all : ReadsAll (world_of source disk out) (receive_query 0 (Symbols TEST_DECODING) workers limit) sums
           (shelf_in shelf (outside s d2 o)) (shelf_in shelf' (outside s' d' o')))
           (calm : Rose (source.faults s) (source.faults s') → ⊥) where
         split_all : symbols ≡ all.bytes ++ source.left s'
@@ -354,14 +354,14 @@ module _ {D : Type 0} (disk : DiskOf D) (symbols : List ℕ) (d1 : D)
         ended_so : (sums.totals.stop ≡ End) × (all.bytes ≡ symbols)
         ended_so = at_end sums.totals.stop all.ends.reason
 
-        pub line : sums_line sums ≡ receive_last 0 (Symbols STANDARD) symbols End
-        line = last_line_is source 0 (Symbols STANDARD) limit all.bytes s s' sums all.ends all.counts
-            ∙ ap (λ stop. receive_last 0 (Symbols STANDARD) all.bytes stop) ended_so.0
-            ∙ ap (λ bytes. receive_last 0 (Symbols STANDARD) bytes End) ended_so.1
+        pub line : sums_line sums ≡ receive_last 0 (Symbols TEST_DECODING) symbols End
+        line = last_line_is source 0 (Symbols TEST_DECODING) limit all.bytes s s' sums all.ends all.counts
+            ∙ ap (λ stop. receive_last 0 (Symbols TEST_DECODING) all.bytes stop) ended_so.0
+            ∙ ap (λ bytes. receive_last 0 (Symbols TEST_DECODING) bytes End) ended_so.1
 
         so_far : disk.tells d1
             → ShelvesSoFar (outlets_of disk out) start
-            (files_of_bytes 0 (Symbols STANDARD) all.bytes) (outlets d1 o) (shelf_in shelf' (outlets d' o'))
+            (files_of_bytes 0 (Symbols TEST_DECODING) all.bytes) (outlets d1 o) (shelf_in shelf' (outlets d' o'))
         so_far told = all.shelved.shelved start [] (outlets d1 o) (begun told)
 
         durable : disk.tells d1
@@ -406,15 +406,15 @@ module _ {D : Type 0} (disk : DiskOf D) (symbols : List ℕ) (d1 : D)
       -- ---- for either answer
       pub stream_ends : (workers : ℕ) (shelf' : Shelf) (answer : Result ReceiveCounts Cause)
           → IfOk answer (λ sums. ReadsAll (world_of source disk out)
-          (receive_query 0 (Symbols STANDARD) workers limit) sums
+          (receive_query 0 (Symbols TEST_DECODING) workers limit) sums
           (shelf_in shelf (outside s d2 o)) (shelf_in shelf' (outside s' d' o')))
           → IfErr answer (λ cause. ReadsSome (world_of source disk out)
-          (receive_query 0 (Symbols STANDARD) workers limit)
+          (receive_query 0 (Symbols TEST_DECODING) workers limit)
           cause (shelf_in shelf (outside s d2 o)) (outside s' d' o'))
           → (Rose (source.faults s) (source.faults s') → ⊥)
           → end_of (with_files [] (trial_files symbols)) ≤ trial_capacity
           → ((x : O) → out.faults x ≡ 0)
-          → IfOk answer (λ sums. sums_line sums ≡ receive_last 0 (Symbols STANDARD) symbols End)
+          → IfOk answer (λ sums. sums_line sums ≡ receive_last 0 (Symbols TEST_DECODING) symbols End)
           × OnOk answer (FillsDisk disk symbols Done d1 d')
           × IfErr answer (λ cause. StopsFilling disk symbols cause d1 d')
       stream_ends workers shelf' (Ok sums) all some calm fit sure =

@@ -5,7 +5,7 @@ use Rattle.lr_bits.specs.declared.outcome.Outcome.{Outcome}
 use Rattle.lr_bits.specs.declared.placed.Placed.{Placed}
 use Rattle.lr_io.specs.declared.sink.Sink.{Ghosts as SinkOf}
 use Rattle.lr_disk.specs.Pending.{NothingPending}
-use Rattle.lr_conv.specs.declared.line.LineCode.{LineCode}
+use Rattle.lr_forms.specs.declared.forms.Decoding.{Decoding}
 use Rattle.lr_layers.specs.Layers.{mended_numbers_of}
 use Rattle.lr_layers.specs.Standing.{numbers}
 use Rattle.lr_shelf.specs.Kept.{kept_by}
@@ -134,7 +134,7 @@ module _ {S D O : Type 0} (world : World S D O) (asked : ReceiveQuery) where
     pub early : StopsShelving (world_outlets world) cause files (shelf_in old.shelf (outlets_in old.lent))
         (outlets_in w')
     -- of symbols they are the first ones of all that the source gives, where it had not failed nor reached the limit
-    pub first : (line : LineCode) → asked.input ≡ Symbols line → world.source.tells old.lent.source
+    pub first : (decoding : Decoding) → asked.input ≡ Symbols decoding → world.source.tells old.lent.source
         → length bytes < asked.limit
         → (Rose (world.source.faults old.lent.source) (world.source.faults w'.source) → ⊥)
         → (rest : List NotedFile) × (files_asked asked (bytes ++ world.source.left w'.source) ≡ files ++ rest)

@@ -2,7 +2,7 @@
 use Rattle.std.specs.Prelude.{◌≡◌, ◌⊎◌, ◌≤◌, ◌++◌, ℕ, List, [], length}
 use Rattle.lr_bits.specs.declared.placed.Placed.{Placed}
 use Rattle.lr_io.specs.declared.sink.Sink.{Ghosts as SinkOf}
-use Rattle.lr_conv.specs.declared.line.TheConstants.{STANDARD}
+use Rattle.lr_cmd_receive.specs.declared.test_stream.TheConstants.{TEST_DECODING}
 use Rattle.lr_disk.specs.declared.disk.Disk.{Ghosts as DiskOf}
 use Rattle.lr_disk.specs.Disk.{Only}
 use Rattle.lr_disk.specs.Reads.{IsOnlyRead, IsUnwritten}
@@ -34,7 +34,7 @@ trial_capacity = 1048576
 
 -- the files of these symbols; nothing is mended
 abbrev pub trial_files : List ℕ → List Placed
-trial_files symbols = placed_files (files_of_bytes 0 (Symbols STANDARD) symbols)
+trial_files symbols = placed_files (files_of_bytes 0 (Symbols TEST_DECODING) symbols)
 
 -- these bytes stand for a shelf of that capacity with a prefix of the files of these symbols, with n of them at least
 pub record StandsForPart (symbols : List ℕ) (n : ℕ) (bytes : List ℕ) : Type 0 where
@@ -105,8 +105,8 @@ module _ {D : Type 0} (disk : DiskOf D) (symbols : List ℕ) where
 module _ {O : Type 0} (out : SinkOf O) (symbols : List ℕ) where
   -- what `out` got: the last line of `receive` alone, where the work is done
   abbrev pub OutEnds : Cause → O → O → Type 0
-  OutEnds Done o o' = Puts out (receive_last 0 (Symbols STANDARD) symbols End) o o'
-  OutEnds (Failed Output) o o' = PutFails out (receive_last 0 (Symbols STANDARD) symbols End) o o'
+  OutEnds Done o o' = Puts out (receive_last 0 (Symbols TEST_DECODING) symbols End) o o'
+  OutEnds (Failed Output) o o' = PutFails out (receive_last 0 (Symbols TEST_DECODING) symbols End) o o'
   OutEnds _ o o' = o' ≡ o
 
 module _ {D O : Type 0} (world : OutletsOf D O) (symbols : List ℕ) where

@@ -4,7 +4,7 @@ ghost use Rattle.lr_bits.specs.Telling.{KeepsTelling};
 ghost use Rattle.lr_cmd_receive.specs.Shelved.{shelf_in};
 ghost use Rattle.lr_causes.specs.Outside.{outside, world_of, outlets_of};
 ghost use Rattle.lr_forms.specs.declared.forms.Input.{Input as Input'};
-ghost use Rattle.lr_mend.specs.declared.mender.TheConstants.{MOST_FILLERS};
+ghost use Rattle.lr_mend.specs.Mending.{most_fillers};
 ghost use Rattle.lr_reading.specs.Leading.{MayLead, Leads};
 ghost use Rattle.lr_reading.specs.Readers.{leeway_for};
 ghost use Rattle.lr_reading.specs.Runs.{IsLed, course_of, lent};
@@ -44,7 +44,7 @@ pub(crate) fn receive_all<
     out: &mut O,
     read: F,
 ) -> Result<ReceiveCounts, Cause>
-    requires mend { mend ≤ MOST_FILLERS }
+    requires mend { mend ≤ most_fillers }
     requires ready { MayLead (F.pre read) (ShelverTook (outlets_of D.Disk O.Sink)) }
     ensures all { (input : Input') (workers most : ℕ) → Leads (F.post read)
         (course_of S.Source (ShelverTook (outlets_of D.Disk O.Sink)) input most (leeway_for input workers))
@@ -113,7 +113,7 @@ fn receive_onto<
     O: Sink,
     F: FnOnce(&mut S, &mut Shelver<'_, D, O>) -> Result<ReadCounts, Cause>,
 >(mend: u16, shelf: &mut Shelf, source: &mut S, disk: &mut D, out: &mut O, read: F) -> Cause
-    requires mend { mend ≤ MOST_FILLERS }
+    requires mend { mend ≤ most_fillers }
     requires ready { MayLead (F.pre read) (ShelverTook (outlets_of D.Disk O.Sink)) }
     ensures { (input : Input') (workers most : ℕ) → Leads (F.post read)
         (course_of S.Source (ShelverTook (outlets_of D.Disk O.Sink)) input most (leeway_for input workers))
@@ -140,7 +140,7 @@ fn receive_with<
     O: Sink,
     F: FnOnce(&mut S, &mut Shelver<'_, D, O>) -> Result<ReadCounts, Cause>,
 >(alloc: Global, mend: u16, source: &mut S, disk: &mut D, out: &mut O, read: F) -> Cause
-    requires mend { mend ≤ MOST_FILLERS }
+    requires mend { mend ≤ most_fillers }
     requires ready { MayLead (F.pre read) (ShelverTook (outlets_of D.Disk O.Sink)) }
     ensures { (input : Input') (workers most : ℕ) → Leads (F.post read)
         (course_of S.Source (ShelverTook (outlets_of D.Disk O.Sink)) input most (leeway_for input workers))
@@ -167,7 +167,7 @@ pub fn receive_alone<S: Source, D: Disk, O: Sink>(
     out: &mut O,
 ) -> Cause
     requires few { most ≤ 2 ^ 48 }
-    requires mend { mend ≤ MOST_FILLERS }
+    requires mend { mend ≤ most_fillers }
     ensures { ReceiveRun (world_of S.Source D.Disk O.Sink) (receive_query mend input 1 most) result
         (outside source.old disk.old out.old) (outside source.new disk.new out.new) }
 {
@@ -206,7 +206,7 @@ pub fn receive<R: Threads + Wait + Sync, H: Hand, S: Source, D: Disk, O: Sink>(
     out: &mut O,
 ) -> Cause
     requires few { most ≤ 2 ^ 48 }
-    requires mend { mend ≤ MOST_FILLERS }
+    requires mend { mend ≤ most_fillers }
     requires workers { (1 ≤ workers) × (workers ≤ MOST_WORKERS) }
     ensures { ReceiveRun (world_of S.Source D.Disk O.Sink) (receive_query mend input workers most) result
         (outside source.old disk.old out.old) (outside source.new disk.new out.new) }

@@ -9,9 +9,16 @@ ghost use Rattle.lr_causes.specs.Puts.{Puts, PutFails};
 
 use lr_bits::{BLOCK_BYTES, FRAME_BYTES, FRAME_SYMBOLS};
 use lr_causes::{Cause, put_text};
-use lr_forms::{Output, UnitForm};
+use lr_conv::{Passes, STANDARD};
+use lr_forms::{Decoding, Output, UnitForm};
 use lr_io::Sink;
 use lr_make::{Maker, put_bytes};
+
+/// How the symbols of a test stream are decoded: under the standard's line code, in one pass.
+pub const TEST_DECODING: Decoding = Decoding {
+    line: STANDARD,
+    passes: Passes::One,
+};
 
 /// The first frames of a test stream, and how many bytes are wrong in each word of their blocks.
 #[derive(Clone, Copy)]

@@ -1,7 +1,7 @@
 //! `trial`: the main job on the test stream, without any input.
 ghost use Rattle.std.specs.Prelude.{◌≡◌, ◌≤◌, ◌<◌, ◌^◌, ◌++◌, [], ℕ, List, length, IfOk, IfErr, OnOk};
 ghost use Rattle.lr_forms.specs.declared.forms.Stop.TheVariants.{End};
-ghost use Rattle.lr_conv.specs.declared.line.TheConstants.{STANDARD as standard};
+ghost use Rattle.lr_cmd_receive.specs.declared.test_stream.TheConstants.{TEST_DECODING as test_decoding};
 ghost use Rattle.lr_shelf_format.specs.ShelfBytes.{end_of};
 ghost use Rattle.lr_shelf.specs.Shelf.{IsDurable};
 ghost use Rattle.lr_make.specs.Blocks.{block_at};
@@ -25,11 +25,10 @@ ghost use Rattle.lr_causes.specs.Outside.{outlets, outlets_of};
 use crate::receive_counts::ReceiveCounts;
 use crate::reception::{put_last, receive_all};
 use crate::shelver::Shelver;
-use crate::test_stream::TestFrames;
+use crate::test_stream::{TEST_DECODING, TestFrames};
 use crate::withdrawal::withdraw;
 use lr_bits::{FRAME_SYMBOLS, NoMemory};
 use lr_causes::Cause;
-use lr_conv::STANDARD;
 use lr_disk::Disk;
 use lr_forms::{Input, MOST_BYTES, MOST_WORKERS, Output};
 use lr_frame::{FrameWork, Hand};
@@ -75,15 +74,15 @@ fn shelve_stream<
 >(alloc: Global, symbols: Vec<u8>, disk: &mut D, read: F) -> Result<ReceiveCounts, Cause>
     requires ready { MayLead (F.pre read) (ShelverTook (outlets_of D.Disk sure_sink)) }
     requires leads { (workers : ℕ) × Leads (F.post read)
-        (course_of sure_source (ShelverTook (outlets_of D.Disk sure_sink)) (Symbols standard) most_bytes
-        (leeway_for (Symbols standard) workers))
+        (course_of sure_source (ShelverTook (outlets_of D.Disk sure_sink)) (Symbols test_decoding) most_bytes
+        (leeway_for (Symbols test_decoding) workers))
         (ShelverStopped (outlets_of D.Disk sure_sink)) }
     requires few { length symbols.items < most_bytes }
     requires fit { end_of (with_files [] (trial_files symbols.items))
         ≤ trial_capacity }
     requires empty { D.tells disk.old → IsDurable D.Disk trial_capacity [] disk.old }
     ensures line { IfOk result (λ sums. sums_line sums
-        ≡ receive_last 0 (Symbols standard) symbols.items End) }
+        ≡ receive_last 0 (Symbols test_decoding) symbols.items End) }
     ensures done { OnOk result (FillsDisk D.Disk symbols.items Cause.Done disk.old disk.new) }
     ensures stopped { IfErr result (λ cause. StopsFilling D.Disk symbols.items cause
         disk.old disk.new) }
@@ -105,8 +104,8 @@ fn fill<
 >(alloc: Global, symbols: Vec<u8>, disk: &mut D, out: &mut O, read: F) -> Cause
     requires ready { MayLead (F.pre read) (ShelverTook (outlets_of D.Disk sure_sink)) }
     requires leads { (workers : ℕ) × Leads (F.post read)
-        (course_of sure_source (ShelverTook (outlets_of D.Disk sure_sink)) (Symbols standard) most_bytes
-        (leeway_for (Symbols standard) workers))
+        (course_of sure_source (ShelverTook (outlets_of D.Disk sure_sink)) (Symbols test_decoding) most_bytes
+        (leeway_for (Symbols test_decoding) workers))
         (ShelverStopped (outlets_of D.Disk sure_sink)) }
     requires few { length symbols.items < most_bytes }
     requires fit { end_of (with_files [] (trial_files symbols.items))
@@ -136,8 +135,8 @@ fn trial_with<
     requires wrong { made.wrong ≤ 16 }
     requires ready { MayLead (F.pre read) (ShelverTook (outlets_of D.Disk sure_sink)) }
     requires leads { (workers : ℕ) × Leads (F.post read)
-        (course_of sure_source (ShelverTook (outlets_of D.Disk sure_sink)) (Symbols standard) most_bytes
-        (leeway_for (Symbols standard) workers))
+        (course_of sure_source (ShelverTook (outlets_of D.Disk sure_sink)) (Symbols test_decoding) most_bytes
+        (leeway_for (Symbols test_decoding) workers))
         (ShelverStopped (outlets_of D.Disk sure_sink)) }
     ensures { TrialRun (outlets_of D.Disk O.Sink)
         (made_bytes Output.Symbols (test_frames made.start made.frames made.wrong))
@@ -173,7 +172,7 @@ pub fn trial_alone<D: Disk, O: Sink>(
     ensures { TrialRun (outlets_of D.Disk O.Sink) (made_bytes Output.Symbols (test_frames start frames wrong))
         result (outlets disk.old out.old) (outlets disk.new out.new) }
 {
-    let input = Input::Symbols(STANDARD);
+    let input = Input::Symbols(TEST_DECODING);
     let reader = match Reader::<FrameWork>::new(alloc, input, 1, MOST_BYTES, &()) {
         Ok(reader) => reader,
         Err(NoMemory) => return Cause::NoMemory,
@@ -215,7 +214,7 @@ pub fn trial<R: Threads + Wait + Sync, H: Hand, D: Disk, O: Sink>(
     ensures { TrialRun (outlets_of D.Disk O.Sink) (made_bytes Output.Symbols (test_frames start frames wrong))
         result (outlets disk.old out.old) (outlets disk.new out.new) }
 {
-    let input = Input::Symbols(STANDARD);
+    let input = Input::Symbols(TEST_DECODING);
     let reader = match Reader::<H>::new(alloc, input, workers, MOST_BYTES, tools) {
         Ok(reader) => reader,
         Err(NoMemory) => return Cause::NoMemory,

@@ -33,7 +33,7 @@ content_stops disk kept number d d' works there (NotAShelf' at) stays refusal co
   counted,
   record {
     seen = None;
-    stands = refusal.1.1;
+    was = record { sight = tt; stands = refusal.1.1 };
     fate = λ read. ap (λ (n : ℕ). Err (NotAShelf n)) (sym refusal.1.0);
   },
 )
@@ -41,8 +41,14 @@ content_stops disk kept number d d' works there (NotEmpty size) stays refusal co
 content_stops disk kept number d d' works there (Capacity needed most) stays refusal counted = absurd refusal.1
 content_stops disk kept number d d' works there (NoSuchFile count) stays refusal counted =
     absurd (omega (arith, there, refusal.1, refusal.2))
-content_stops disk kept number d d' works there (Crc stored computed) stays refusal counted =
-    (counted, record { seen = Some (Wrong stored computed); stands = refusal.1.1; fate = λ read. refl })
+content_stops disk kept number d d' works there (Crc stored computed) stays refusal counted = (
+  counted,
+  record {
+    seen = Some (Wrong stored computed);
+    was = record { sight = tt; stands = refusal.1.1 };
+    fate = λ read. refl;
+  },
+)
 content_stops disk kept number d d' works there NoMemory stays refusal counted = counted
 content_stops disk kept number d d' works there Failed stays refusal counted = absurd (both works refusal) where
   both : kept.failed ≡ false → kept.failed ≡ true → ⊥

@@ -213,8 +213,11 @@ module _ {D O : Type 0} (disk : DiskOf D) (out : SinkOf O) where
           omega (arith, next_is, there),
           subst (λ (n : ℕ). IsRefusedAt disk way n d refusal) (sym next_is) (record {
             seen = refused.seen;
-            stands = found_at_start
-                (λ b w s. IsSeen render_query.sees b (entry_at w before.next) s) refused.seen refused.stands;
+            was = record {
+              sight = refused.was.sight;
+              stands = found_at_start
+                  (λ b w s. IsSeen render_query.sees b (entry_at w before.next) s) refused.seen refused.was.stands;
+            };
             fate = λ read. subst
                 (λ (k : KeptShelf). fate_of render_query k.way read before.next refused.seen ≡ Err refusal)
                 goes.reads.kept (refused.fate read);

@@ -97,7 +97,7 @@ module _ {D O : Type 0} (disk : DiskOf D) (out : SinkOf O) (start : RenderSource
         so_more disk out render_query way (record { from = 0; to = count_in start }) d start.out.now
         (IsTally (Vacant ∷ rest) tally) number o o so more d (λ t. t) (λ t. refl) (IsTally rest tally) d (record {
           seen = Absent;
-          stands = stands;
+          was = record { sight = tt; stands = stands };
           puts = record { text = []; is = refl; puts = nothing_put o };
           gathered = tally_vacant rest tally so.read so.gathered;
         })
@@ -111,7 +111,7 @@ module _ {D O : Type 0} (disk : DiskOf D) (out : SinkOf O) (start : RenderSource
         (IsTally (Imageless stored fault ∷ rest) tally) number o o so more d (λ t. t) (λ t. refl)
         (IsTally rest tally) d (record {
           seen = Whole (opened_with stored (Err fault));
-          stands = λ t. (stands.0 t, stands.1);
+          was = record { sight = stands.1; stands = λ t. (stands.0 t, stands.1) };
           puts = record { text = []; is = refl; puts = nothing_put o };
           gathered = tally_imageless stored fault rest tally so.read so.gathered;
         })
@@ -127,7 +127,7 @@ module _ {D O : Type 0} (disk : DiskOf D) (out : SinkOf O) (start : RenderSource
         (IsTally (Pending stored ∷ rest) tally) number o o' so more d (λ t. t) (λ t. refl)
         (IsTally rest (tally_with outcome tally)) d (record {
           seen = Whole (opened_with stored outcome);
-          stands = λ t. (stands t, has);
+          was = record { sight = has; stands = λ t. (stands t, has) };
           puts = record { text = image_text (Some outcome); is = refl; puts = puts };
           gathered = tally_pending stored outcome rest tally so.read so.gathered;
         })

@@ -96,13 +96,13 @@ module _ {D O : Type 0} (disk : DiskOf D) (out : SinkOf O) where
         let reads = reads_on disk out goes now disk_is shelf_is in
         let opened = opened_with first.stored stops.outcome in
         let fate = Ok (image_text (Some stops.outcome)) in
+        let has = subst (λ (f : File). HasOutcome f stops.outcome) (sym first.file_is) stops.has in
         stops_with now (ap (λ (r : _). r.ghost_name) disk_is) out_name reads.tell.told reads.tell.untold reads.only_read
         (Pending first.stored ∷ first.rest) before.tally first.number before.out.now
         (first_there disk out goes plan mid same takes) first.settles cause
         (stops_seen disk out render_query (way_of_source start) first.settles.read first.number start.disk.now
         now.disk.now before.out.now now.out.now (Some (Whole opened))
-        (λ t. (first.stands t, subst (λ (f : File). HasOutcome f stops.outcome) (sym first.file_is) stops.has)) cause
-        stops.stops)
+        (record { sight = has; stands = λ t. (first.stands t, has) }) cause stops.stops)
         (text_counted disk out fate start.disk.now now.disk.now before.out.now now.out.now reads.faults cause
         stops.stops)
 
@@ -173,7 +173,7 @@ module _ {D O : Type 0} (disk : DiskOf D) (out : SinkOf O) where
         stops_with before refl refl goes.reads.tell.told goes.reads.tell.untold goes.reads.only_read []
         before.tally before.next
         before.out.now waits.0 so (Refused refusal)
-        (record { seen = waits.1.seen; stands = waits.1.stands; stops = (waits.1.fate so.read, refl) })
+        (record { seen = waits.1.seen; was = waits.1.was; stops = (waits.1.fate so.read, refl) })
         (quiet_counts disk out (Refused refusal) start.disk.now before.disk.now before.out.now before.out.now tt
         goes.reads.faults refl)
 
@@ -284,7 +284,7 @@ module _ {D O : Type 0} (disk : DiskOf D) (out : SinkOf O) where
       → ((x : D) → disk.only_read x x) → (over : Way) (d : D) (o : O)
       → RunsOn (outlets_of disk out) (query_on render_query over) NoMemory (outlets d o) (outlets d o)
   nothing_put only_now reads_none over d o = record {
-    may = tt;
+    takes = inl refl;
     counted = quiet_counts disk out NoMemory d d o o tt refl refl;
     tell = record {
       by_disk = tells_still;
@@ -299,7 +299,6 @@ module _ {D O : Type 0} (disk : DiskOf D) (out : SinkOf O) where
       untouched = λ none. refl;
     };
     untouched = λ one cuts. refl;
-    put = λ done. absurd done;
   }
 
   pub stops_at_once : ((x : D) (c : List ℕ) → disk.tells x → disk.left_since x (disk.moment x) c → disk.may_leave x c)

@@ -11,7 +11,8 @@ use Rattle.lr_causes.specs.declared.cause.Cause.{Cause}
 use Rattle.lr_causes.specs.declared.cause.Cause.TheVariants.{Failed, NoMemory, Refused}
 use Rattle.lr_causes.specs.declared.cause.Party.TheVariants.{Disk}
 use Rattle.lr_causes.specs.declared.cause.Refusal.{Refusal}
-use Rattle.lr_cmd_shelf.specs.Queries.{IsSeen, EntryView, entry_at, fate_of}
+use Rattle.lr_cmd_shelf.specs.Queries.{EntryView, entry_at, fate_of}
+use Rattle.lr_cmd_shelf.specs.Read.{WasSeen}
 use Rattle.lr_cmd_render.specs.Render.{render_query}
 use Rattle.lr_cmd_render.specs.declared.content.Content.{Content}
 use Rattle.lr_cmd_render.specs.declared.content.Content.TheVariants.{Gone as AGone, NoImage, Image}
@@ -45,7 +46,7 @@ module _ {D : Type 0} (disk : DiskOf D) (way : Way) (number : ℕ) where
   -- what stands there is refused
   pub record IsRefusedAt (d : D) (refusal : Refusal) : Type 0 where
     pub seen : Option EntryView
-    pub stands : disk.tells d → IsSeen render_query.sees (disk.contents d) (entry_at way number) seen
+    pub was : WasSeen disk d render_query.sees (entry_at way number) seen
     pub fate : (read : List EntryView) → fate_of render_query way read number seen ≡ Err refusal
 
   -- why the entry was not read

@@ -1,6 +1,7 @@
 -- What `render` puts, said of the entries of a shelf alone: the joined text of the images of all entries that aren't
 -- gone and have one, in their order.
-use Rattle.std.specs.Prelude.{◌≡◌, ◌⊎◌, ◌+◌, ℕ, zero, suc, Some, None, Result, List, [], ◌++◌, length}
+use Rattle.std.specs.Prelude.{◌≡◌, ◌⊎◌, ◌+◌, ℕ, zero, suc, Some, None, Result, List, [], ◌++◌, length, All}
+use Rattle.std.specs.List.{flat_map}
 use Rattle.lr_image.specs.Picture.{Picture}
 use Rattle.lr_image.specs.Images.{HasOutcome}
 use Rattle.lr_image.specs.declared.fault.ImageFault.{ImageFault}
@@ -8,10 +9,15 @@ use Rattle.lr_shelf_format.specs.Way.{Way, IsWay, Gone, IsFound, Sound}
 use Rattle.lr_shelf_format.specs.declared.entry.Entry.{Entry}
 use Rattle.lr_shelf_format.specs.declared.stored.Stored.{Stored}
 use Rattle.lr_causes.specs.Outside.{Outlets, OutletsOf}
+use Rattle.lr_causes.specs.Puts.{GotText}
 use Rattle.lr_causes.specs.declared.cause.Cause.{Cause}
+use Rattle.lr_causes.specs.declared.cause.Cause.TheVariants.{DoneWith}
+use Rattle.lr_causes.specs.declared.note.Note.TheVariants.{Rendered}
+use Rattle.lr_cmd_shelf.specs.declared.opened.Opened.{Opened}
+use Rattle.lr_cmd_shelf.specs.Looking.{each_image}
 use Rattle.lr_cmd_shelf.specs.Queries.{Answer, entry_at, IsAnswer}
-use Rattle.lr_cmd_shelf.specs.Read.{IsDone}
-use Rattle.lr_cmd_render.specs.Render.{image_text, render_query}
+use Rattle.lr_cmd_shelf.specs.Runs.{IsDone}
+use Rattle.lr_cmd_render.specs.Render.{image_text, images_in, render_query, skipped_in}
 
 -- a file stands at the entry, and this is the text of its image, if it has one
 pub record IsTextOfFile (bytes : List ℕ) (entry : Entry) (text : List ℕ) : Type 0 where
@@ -39,17 +45,24 @@ IsRendered bytes way zero number text = text ≡ []
 IsRendered bytes way (suc left) number text =
     TextThen bytes (entry_at way number) (IsRendered bytes way left (number + 1)) text
 
--- Where the call is done, over a disk that tells its contents, this is what it put.
-module _ {D O : Type 0} (world : OutletsOf D O) where
-  pub record HasRendered (w w' : Outlets D O) : Type 0 where
-    pub put : List ℕ
-    pub got : world.out.contents w'.out ≡ world.out.contents w.out ++ put
-    pub way : Way
-    pub is_way : IsWay (world.disk.contents w.disk) way
-    pub rendered : IsRendered (world.disk.contents w.disk) way (length way.entries) 0 put
+-- the images of files, by what was found of each, one after another
+abbrev pub images_text : List Opened → List ℕ
+images_text files = flat_map (λ opened. image_text opened.image) files
 
+module _ {D O : Type 0} (world : OutletsOf D O) where
+  -- What was put is the images of some files, of each of which this was found, and these were counted. Where the disk
+  -- tells its contents, they are those of all entries.
+  pub record HasRendered (cause : Cause) (w w' : Outlets D O) : Type 0 where
+    pub files : List Opened
+    pub found : All (λ opened. each_image opened.stored opened.image) files
+    pub put : GotText world.out (images_text files) w.out w'.out
+    pub counted : cause ≡ DoneWith (Rendered (images_in files) (skipped_in files))
+    pub are : world.disk.tells w.disk → (way : Way) × IsWay (world.disk.contents w.disk) way
+        × IsRendered (world.disk.contents w.disk) way (length way.entries) 0 (images_text files)
+
+  -- Where the call is done, over every disk, this is what it put.
   abbrev pub Renders : Cause → Outlets D O → Outlets D O → Type 0
-  Renders cause w w' = IsDone cause → world.disk.tells w.disk → world.out.tells w.out → HasRendered w w'
+  Renders cause w w' = IsDone cause → HasRendered cause w w'
 
 -- where nothing is refused, the answer of the bytes is the text of all entries
 abbrev pub RenderPutsImages : Type 0

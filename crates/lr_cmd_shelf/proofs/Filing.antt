@@ -104,7 +104,7 @@ module _ {D O : Type 0} (disk : DiskOf D) (out : SinkOf O) (kept : KeptShelf) (n
   get_stops query read d' o Disk' bad stays refusal = refl
   get_stops query read d' o (NotAShelf' at) bad stays refusal = record {
     seen = None;
-    stands = refusal.1.1;
+    was = record { sight = tt; stands = refusal.1.1 };
     stops = (ap (λ (n : ℕ). Err (NotAShelf n)) (sym refusal.1.0), refl);
   }
   get_stops query read d' o (NotEmpty' size) bad stays refusal = absurd refusal.1
@@ -113,7 +113,7 @@ module _ {D O : Type 0} (disk : DiskOf D) (out : SinkOf O) (kept : KeptShelf) (n
       absurd (omega (arith, there, refusal.1, refusal.2))
   get_stops query read d' o (Crc' stored computed) bad stays refusal = record {
     seen = Some (Wrong stored computed);
-    stands = refusal.1.1;
+    was = record { sight = tt; stands = refusal.1.1 };
     stops = (bad stored computed refl, refl);
   }
   get_stops query read d' o NoMemory' bad stays refusal = refl
@@ -134,7 +134,7 @@ module _ {D O : Type 0} (disk : DiskOf D) (out : SinkOf O) (kept : KeptShelf) (n
           (λ read'. gathers (files_of read')) (outlets d o) (outlets d' o')
       takes_file gathers puts gathered = record {
         seen = Whole opened;
-        stands = λ t. (finds t, seen);
+        was = record { sight = seen; stands = λ t. (finds t, seen) };
         puts = puts;
         gathered = subst gathers (sym (files_of-whole read opened)) gathered;
       }
@@ -144,7 +144,7 @@ module _ {D O : Type 0} (disk : DiskOf D) (out : SinkOf O) (kept : KeptShelf) (n
           (outlets d o)
           (outlets d' o')
       stops_file = stops_seen disk out (query_of_files query) kept.way read number d d' o o' (Some (Whole opened))
-          (λ t. (finds t, seen))
+          (record { sight = seen; stands = λ t. (finds t, seen) })
 
     module _ (gone : IsGetRefusal disk kept number d Discarded') where
       pub takes_gone : (gathers : List Opened → Type 0) → PutsText out (query.gone number) o o'
@@ -153,7 +153,7 @@ module _ {D O : Type 0} (disk : DiskOf D) (out : SinkOf O) (kept : KeptShelf) (n
           (λ read'. gathers (files_of read')) (outlets d o) (outlets d' o')
       takes_gone gathers puts gathered = record {
         seen = Absent;
-        stands = found_gone gone;
+        was = record { sight = tt; stands = found_gone gone };
         puts = puts;
         gathered = subst gathers (sym (files_of-absent read)) gathered;
       }
@@ -163,4 +163,5 @@ module _ {D O : Type 0} (disk : DiskOf D) (out : SinkOf O) (kept : KeptShelf) (n
           (outlets d o)
           (outlets d' o')
       stops_gone =
-          stops_seen disk out (query_of_files query) kept.way read number d d' o o' (Some Absent) (found_gone gone)
+          stops_seen disk out (query_of_files query) kept.way read number d d' o o' (Some Absent)
+          (record { sight = tt; stands = found_gone gone })

@@ -22,20 +22,25 @@ use Rattle.lr_shelf.specs.declared.error.ShelfError.TheVariants.{Crc as Crc', No
 use Rattle.lr_shelf.specs.declared.error.ShelfError.TheVariants.{Failed as Failed'}
 use Rattle.lr_shelf.specs.declared.error.ShelfError.TheVariants.{Discarded as Discarded'}
 use Rattle.lr_causes.specs.declared.cause.Party.TheVariants.{Source, Disk, Output}
+use Rattle.lr_causes.specs.declared.cause.Refusal.{Refusal}
 use Rattle.lr_causes.specs.declared.cause.Refusal.TheVariants.{NotAShelf}
 use Rattle.lr_causes.specs.declared.cause.Cause.{Cause}
 use Rattle.lr_causes.specs.declared.cause.Cause.TheVariants.{Done, DoneWith, Usage, Failed, NoMemory, Refused}
 use Rattle.lr_causes.specs.declared.note.Note.{Note}
-use Rattle.lr_cmd_shelf.specs.Queries.{Query, Answer, AnswersOn, BegunBy, IsAnswer, IsBegun}
+use Rattle.lr_cmd_shelf.specs.Queries.{Query, Answer, AnswersOn, BegunBy, EntryView, IsAnswer, IsBegun, entry_at}
 use Rattle.lr_cmd_shelf.specs.Queries.{done_answer, refused_answer, query_on, query_over}
 use Rattle.lr_causes.specs.Causes.{FaultCounts}
 use Rattle.lr_causes.specs.Counts.{CountsTell, NoneBesides}
 use Rattle.lr_causes.specs.Outside.{outlet_counts, outlets, outlets_of}
 use Rattle.lr_refusals.specs.Errors.{cause_of}
-use Rattle.lr_cmd_shelf.specs.Runs.{PutsFirst, Got, Precedes, RunsReading, RunsOn, RunsOver}
-use Rattle.lr_cmd_shelf.specs.Runs.{at_place, cause_for, reading, allowed_by, allowed_on}
+use Rattle.lr_cmd_shelf.specs.Read.{EntriesTaken, Reading, ThenBecomes, allowed_by, allowed_on, entries_seen}
+use Rattle.lr_cmd_shelf.specs.Read.{reading_by, reading_on}
+use Rattle.lr_cmd_shelf.specs.Runs.{PutsFirst, Gathers, GathersOn, GathersOver, Got, IsDone, Precedes, RunsReading}
+use Rattle.lr_cmd_shelf.specs.Runs.{RunsOn, RunsOver, Takes, TakesAll, cause_for}
 use Rattle.lr_cmd_shelf.specs.Sights.{SeesImages}
 use Rattle.lr_cmd_shelf.proofs.Answering.{answer_is, begun_front}
+use Rattle.lr_cmd_shelf.proofs.Reading.{seen_before, was_before}
+use Rattle.lr_cmd_shelf.proofs.Taking.{undone_gathers}
 use Rattle.lr_cmd_shelf.proofs.Texts.{disk_counts, quiet_counts, same_counts}
 
 -- a text that goes on after some byte isn't empty
@@ -75,10 +80,23 @@ module _ {D O : Type 0} (disk : DiskOf D) (out : SinkOf O) (query : Query) where
       (answer_is query images bytes (refused_answer got.first.text refusal) answer got.is is))
 
   pub over : SeesImages query.sees → (d d' : D) (o o' : O) (cause : Cause)
-      → RunsReading (outlets_of disk out) (reading query (allowed_by query)) cause (outlets d o) (outlets d' o')
+      → RunsReading (outlets_of disk out) (reading_by query) cause (outlets d o) (outlets d' o')
       → RunsOver (outlets_of disk out) query cause (outlets d o) (outlets d' o')
   over images d d' o o' cause runs =
       record { runs = runs; ends = λ answer t. ends images (disk.contents d) o o' cause (runs.got t) answer }
+
+  -- one that isn't done gathers nothing
+  pub over_gathers : SeesImages query.sees → (d d' : D) (o o' : O) {G : Type 0} (gathers : G → List EntryView → Type 0)
+      (cause : Cause) → (IsDone cause → ⊥)
+      → RunsReading (outlets_of disk out) (reading_by query) cause (outlets d o) (outlets d' o')
+      → GathersOver (outlets_of disk out) gathers cause (outlets d o) (outlets d' o') query
+  over_gathers images d d' o o' gathers cause undone runs =
+      let whole = over images d d' o o' cause runs in
+      record {
+        runs = whole;
+        gathered = undone_gathers (outlets_of disk out) (reading_by query) (outlets d o) (outlets d' o') gathers cause
+            undone whole.runs.takes;
+      }
 
   -- nothing was put
   nothing : (bytes : List ℕ) (o : O) → PutsFirst out (allowed_by query bytes) 1 o o
@@ -103,9 +121,9 @@ module _ {D O : Type 0} (disk : DiskOf D) (out : SinkOf O) (query : Query) where
   pub not_started :
       ((x : D) (c : List ℕ) → disk.tells x → disk.left_since x (disk.moment x) c → disk.may_leave x c)
       → (d : D) → disk.only_read d d → (o : O)
-      → RunsReading (outlets_of disk out) (reading query (allowed_by query)) NoMemory (outlets d o) (outlets d o)
+      → RunsReading (outlets_of disk out) (reading_by query) NoMemory (outlets d o) (outlets d o)
   not_started only_now d none o = record {
-    may = tt;
+    takes = inl refl;
     counted = quiet_counts disk out NoMemory d d o o tt refl refl;
     tell = record {
       by_disk = tells_still;
@@ -114,7 +132,6 @@ module _ {D O : Type 0} (disk : DiskOf D) (out : SinkOf O) (query : Query) where
     only_read = only_read_yet disk only_now d none;
     got = λ t. nothing_yet (disk.contents d) o;
     untouched = λ one cuts. refl;
-    put = λ done. absurd done;
   }
 
   module _ (d d1 : D) (o : O) (result : Result Shelf ShelfError) (loads : Loads disk d d1 result) where
@@ -126,10 +143,10 @@ module _ {D O : Type 0} (disk : DiskOf D) (out : SinkOf O) (query : Query) where
 
     -- no shelf was loaded
     pub not_loaded : (error : ShelfError) → result ≡ Err error → IsLoadRefusal disk d error
-        → RunsReading (outlets_of disk out) (reading query (allowed_by query)) (cause_of error) (outlets d o)
+        → RunsReading (outlets_of disk out) (reading_by query) (cause_of error) (outlets d o)
         (outlets d1 o)
     not_loaded Disk' is refusal = record {
-      may = tt;
+      takes = inl refl;
       counted = disk_counts disk out d d1 o o (counted_load Disk' is).1 refl;
       tell = record {
         by_disk = loads.calls.tell;
@@ -138,10 +155,9 @@ module _ {D O : Type 0} (disk : DiskOf D) (out : SinkOf O) (query : Query) where
       only_read = loads.only_read;
       got = λ t. nothing (disk.contents d) o;
       untouched = λ one cuts. refl;
-      put = λ done. absurd done;
     }
     not_loaded (NotAShelf' at) is refusal = record {
-      may = at_place at refl;
+      takes = inl refl;
       counted =
           quiet_counts disk out (Refused (NotAShelf at)) d d1 o o tt (counted_load (NotAShelf' at) is) refl;
       tell = record {
@@ -160,14 +176,13 @@ module _ {D O : Type 0} (disk : DiskOf D) (out : SinkOf O) (query : Query) where
         is = inl (at, refusal t, refl);
       };
       untouched = λ one cuts. refl;
-      put = λ done. absurd done;
     }
     not_loaded (NotEmpty' size) is refusal = absurd refusal
     not_loaded (Capacity' needed most) is refusal = absurd refusal
     not_loaded (NoSuchFile' count) is refusal = absurd refusal
     not_loaded (Crc' stored computed) is refusal = absurd refusal
     not_loaded NoMemory' is refusal = record {
-      may = tt;
+      takes = inl refl;
       counted = quiet_counts disk out NoMemory d d1 o o tt (counted_load NoMemory' is) refl;
       tell = record {
         by_disk = loads.calls.tell;
@@ -176,10 +191,27 @@ module _ {D O : Type 0} (disk : DiskOf D) (out : SinkOf O) (query : Query) where
       only_read = loads.only_read;
       got = λ t. nothing_yet (disk.contents d) o;
       untouched = λ one cuts. refl;
-      put = λ done. absurd done;
     }
     not_loaded Failed' is refusal = absurd refusal
     not_loaded Discarded' is refusal = absurd refusal
+
+    -- so nothing was gathered
+    pub not_loaded_gathers : SeesImages query.sees → {G : Type 0} (gathers : G → List EntryView → Type 0)
+        → (error : ShelfError) → result ≡ Err error → IsLoadRefusal disk d error
+        → GathersOver (outlets_of disk out) gathers (cause_of error) (outlets d o) (outlets d1 o) query
+    not_loaded_gathers images gathers error is refusal =
+        over_gathers images d d1 o o gathers (cause_of error) (no_work error) (not_loaded error is refusal)
+      where
+        no_work : (error : ShelfError) → IsDone (cause_of error) → ⊥
+        no_work Disk' done = done
+        no_work (NotAShelf' at) done = done
+        no_work (NotEmpty' size) done = done
+        no_work (Capacity' needed most) done = done
+        no_work (NoSuchFile' count) done = done
+        no_work (Crc' stored computed) done = done
+        no_work NoMemory' done = done
+        no_work Failed' done = done
+        no_work Discarded' done = done
 
     module _ (shelf : Shelf) (is : result ≡ Ok shelf) where
       pub way_there : disk.tells d → IsWay (disk.contents d) (kept_by shelf).way
@@ -258,13 +290,105 @@ module _ {D O : Type 0} (disk : DiskOf D) (out : SinkOf O) (query : Query) where
           is = onto (refused_answer got.first.text refusal) got.is;
         }
 
+      -- what was read of it was read of the disk as it was before
+      abbrev On : Reading
+      On = reading_on (query_on query (kept_by shelf).way)
+
+      abbrev By : Reading
+      By = reading_by query
+
+      abbrev same_bytes : disk.tells d → disk.contents d1 ≡ disk.contents d
+      same_bytes t = (loads.only_read.unwritten t).contents
+
+      abbrev taken_before : EntriesTaken disk d1 On → EntriesTaken disk d By
+      taken_before taken = record {
+        way = taken.way;
+        is_way = λ t.
+            subst (λ (w : Way). IsWay (disk.contents d) w) (sym (taken.is_way (loads.calls.tell.told t)))
+            (way_there t);
+        range = taken.range;
+        allowed = taken.allowed;
+        read = taken.read;
+        few = taken.few;
+        texts = taken.texts;
+        are = seen_before disk d d1 loads.calls.tell.told same_bytes
+            (entries_seen query taken.way taken.range.from taken.read) taken.texts taken.are;
+      }
+
+      then_before : (taken : EntriesTaken disk d1 On) (fate : Result (List ℕ) Refusal)
+          → ThenBecomes disk d1 On taken fate → ThenBecomes disk d By (taken_before taken) fate
+      then_before taken fate (inl next) =
+          inl (record {
+            more = next.more;
+            seen = next.seen;
+            was = was_before disk d d1 loads.calls.tell.told same_bytes query.sees
+                (entry_at taken.way (taken.range.from + length taken.read)) next.seen next.was;
+            is = next.is;
+          })
+      then_before taken fate (inr last) = inr (record { all = last.all; is = last.is })
+
+      module _ (d2 : D) (o' : O) where
+        abbrev TakesOn : Cause → Type 0
+        TakesOn = Takes (outlets_of disk out) On (outlets d1 o) (outlets d2 o')
+
+        abbrev TakesBy : Cause → Type 0
+        TakesBy = Takes (outlets_of disk out) By (outlets d o) (outlets d2 o')
+
+        abbrev all_before : (note : Option Note)
+            → TakesAll (outlets_of disk out) On (outlets d1 o) (outlets d2 o') note
+            → TakesAll (outlets_of disk out) By (outlets d o) (outlets d2 o') note
+        all_before note takes = record {
+          taken = taken_before takes.taken;
+          last = takes.last;
+          ends = record { all = takes.ends.all; is = takes.ends.is };
+          note_is = takes.note_is;
+          put = takes.put;
+        }
+
+        takes_before : (cause : Cause) → TakesOn cause → TakesBy cause
+        takes_before Done takes = all_before None takes
+        takes_before (DoneWith note) takes = all_before (Some note) takes
+        takes_before Usage takes = absurd takes
+        takes_before (Failed Source) takes = absurd takes
+        takes_before (Failed Disk) (inl none) = inl none
+        takes_before (Failed Disk) (inr first) =
+            inr (record { taken = taken_before first.taken; after = first.after; put = first.put })
+        takes_before (Failed Output) takes = record {
+          taken = taken_before takes.taken;
+          one = takes.one;
+          some = takes.some;
+          next = then_before takes.taken (Ok takes.one) takes.next;
+          part = takes.part;
+        }
+        takes_before NoMemory (inl none) = inl none
+        takes_before NoMemory (inr first) =
+            inr (record { taken = taken_before first.taken; after = tt; put = first.put })
+        takes_before (Refused refusal) (inl none) = inl none
+        takes_before (Refused refusal) (inr first) =
+            inr (record {
+              taken = taken_before first.taken;
+              after = then_before first.taken (Err refusal) first.after;
+              put = first.put;
+            })
+
+        gathers_before : {G : Type 0} (gathers : G → List EntryView → Type 0) (cause : Cause) (takes : TakesOn cause)
+            → Gathers (outlets_of disk out) On (outlets d1 o) (outlets d2 o') gathers cause takes
+            → Gathers (outlets_of disk out) By (outlets d o) (outlets d2 o') gathers cause (takes_before cause takes)
+        unfolding takes_before
+        gathers_before gathers Done takes gathered = gathered
+        gathers_before gathers (DoneWith note) takes gathered = gathered
+        gathers_before gathers Usage takes gathered = tt
+        gathers_before gathers (Failed party) takes gathered = tt
+        gathers_before gathers NoMemory takes gathered = tt
+        gathers_before gathers (Refused refusal) takes gathered = tt
+
       -- a shelf was loaded, and its entries were run over
       pub loaded : ((x y z : D) → disk.only_read x y → disk.only_read y z → disk.only_read x z)
           → (d2 : D) (o' : O) (cause : Cause)
           → RunsOn (outlets_of disk out) (query_on query (kept_by shelf).way) cause (outlets d1 o) (outlets d2 o')
-          → RunsReading (outlets_of disk out) (reading query (allowed_by query)) cause (outlets d o) (outlets d2 o')
+          → RunsReading (outlets_of disk out) (reading_by query) cause (outlets d o) (outlets d2 o')
       loaded reads_on d2 o' cause runs = record {
-        may = runs.may;
+        takes = takes_before d2 o' cause runs.takes;
         counted = subst
             (λ (c : FaultCounts). CountsTell NoneBesides cause c
             (outlet_counts (outlets_of disk out) (outlets d2 o')))
@@ -280,5 +404,17 @@ module _ {D O : Type 0} (disk : DiskOf D) (out : SinkOf O) (query : Query) where
             (λ (b : List ℕ). Got out (allowed_on (query_on query (kept_by shelf).way) b)
             cause o o') (loads.only_read.unwritten t).contents (runs.got (loads.calls.tell.told t)));
         untouched = runs.untouched;
-        put = runs.put;
+      }
+
+      -- and what was gathered of them
+      pub loaded_gathers : SeesImages query.sees
+          → ((x y z : D) → disk.only_read x y → disk.only_read y z → disk.only_read x z)
+          → (d2 : D) (o' : O) (cause : Cause) {G : Type 0} (gathers : G → List EntryView → Type 0)
+          → GathersOn (outlets_of disk out) gathers cause (outlets d1 o) (outlets d2 o')
+          (query_on query (kept_by shelf).way)
+          → GathersOver (outlets_of disk out) gathers cause (outlets d o) (outlets d2 o') query
+      unfolding over loaded
+      loaded_gathers images reads_on d2 o' cause gathers on = record {
+        runs = over images d d2 o o' cause (loaded reads_on d2 o' cause on.runs);
+        gathered = gathers_before d2 o' gathers cause on.runs.takes on.gathered;
       }

@@ -9,9 +9,10 @@ use Rattle.std.proofs.lemmas.List.{get_or_append_left, take-append-le, take_all}
 use Rattle.std.proofs.lemmas.List.Folds.{concat-append}
 use Rattle.std.proofs.lemmas.Option.{slice_get_within}
 use Rattle.lr_disk.specs.declared.disk.Disk.{Ghosts as DiskOf}
-use Rattle.lr_shelf_format.specs.Way.{IsWay, Way}
-use Rattle.lr_cmd_shelf.specs.Queries.{Query, IsSeen, EntryView, entry_at, query_on}
-use Rattle.lr_cmd_shelf.specs.Read.{AreSeen, GathersOver, HasGathered, entries_seen}
+use Rattle.lr_shelf_format.specs.Way.{Way}
+use Rattle.lr_shelf_format.specs.declared.entry.Entry.{Entry}
+use Rattle.lr_cmd_shelf.specs.Queries.{Query, IsSeen, EntryView, Sight, entry_at}
+use Rattle.lr_cmd_shelf.specs.Read.{AreSeen, EntriesSeen, WasSeen, entries_seen}
 
 -- ---- one at the end
 
@@ -35,7 +36,7 @@ some_same a b is = cc (is)
 module _ {D : Type 0} (disk : DiskOf D) (d : D) (query : Query) (way : Way) (from : ℕ) where
   pub none_seen : AreSeen disk d (entries_seen query way from []) []
   none_seen = record {
-    stand = λ t i h. absurd (omega (arith, h));
+    stand = λ i h. absurd (omega (arith, h));
     count = refl;
     become = λ i seen is. absurd (omega (arith, slice_get_within [] i seen is));
   }
@@ -44,22 +45,21 @@ module _ {D : Type 0} (disk : DiskOf D) (d : D) (query : Query) (way : Way) (fro
       (are : AreSeen disk d (entries_seen query way from read) texts)
       (seen : EntryView)
       (text : List ℕ)
-      (stands : disk.tells d → IsSeen query.sees (disk.contents d) (entry_at way (from + length read)) (Some seen))
+      (was : WasSeen disk d query.sees (entry_at way (from + length read)) (Some seen))
       (fate : query.fate read (from + length read) seen ≡ Ok text) where
     abbrev all : List EntryView
     all = read ++ seen ∷ []
 
-    stand_more : disk.tells d → (i : ℕ) → i < length all
-        → IsSeen query.sees (disk.contents d) (entry_at way (from + i)) (slice_get all i)
-    stand_more t i h = elim (cases_lt i (length read)) [
+    stand_more : (i : ℕ) → i < length all → WasSeen disk d query.sees (entry_at way (from + i)) (slice_get all i)
+    stand_more i h = elim (cases_lt i (length read)) [
       | inl less ↦
-          subst (λ (o : Option EntryView). IsSeen query.sees (disk.contents d) (entry_at way (from + i)) o)
-          (sym (get_before read (seen ∷ []) i less)) (are.stand t i less)
+          subst (λ (o : Option EntryView). WasSeen disk d query.sees (entry_at way (from + i)) o)
+          (sym (get_before read (seen ∷ []) i less)) (are.stand i less)
       | inr more ↦
           let here : length read ≡ i = omega (arith, h, more, length-append read (seen ∷ [])) in
-          subst (λ (k : ℕ). IsSeen query.sees (disk.contents d) (entry_at way (from + k)) (slice_get all k)) here
-          (subst (λ (o : Option EntryView). IsSeen query.sees (disk.contents d) (entry_at way (from + length read)) o)
-          (sym (get_last read seen)) (stands t))
+          subst (λ (k : ℕ). WasSeen disk d query.sees (entry_at way (from + k)) (slice_get all k)) here
+          (subst (λ (o : Option EntryView). WasSeen disk d query.sees (entry_at way (from + length read)) o)
+          (sym (get_last read seen)) was)
     ]
 
     become_more : (i : ℕ) (one : EntryView) → slice_get all i ≡ Some one
@@ -99,31 +99,20 @@ module _ {D : Type 0} (disk : DiskOf D) (d : D) (query : Query) (way : Way) (fro
     }
 
 -- the disk was read before, with the same contents
-pub gathered_over : {D G : Type 0} (disk : DiskOf D) (d d1 : D) (query : Query) (gathers : G → List EntryView → Type 0)
-    (way : Way) (put : List ℕ) → (disk.tells d → disk.tells d1)
-    → (disk.tells d → disk.contents d1 ≡ disk.contents d) → (disk.tells d → IsWay (disk.contents d1) way)
-    → HasGathered disk d1 (query_on query way) gathers put → GathersOver disk d query gathers put
-gathered_over disk d d1 query gathers way put told same is_way has = record {
-  way = way;
-  is_way = λ t. subst (λ (l : List ℕ). IsWay l way) (same t) (is_way t);
-  has = record {
-    range = has.range;
-    allowed = has.allowed;
-    read = has.read;
-    texts = has.texts;
-    are = record {
-      stand = λ t i h.
-          subst
-          (λ (l : List ℕ). IsSeen query.sees l (entry_at way (has.range.from + i)) (slice_get has.read i))
-          (same t) (has.are.stand (told t) i h);
-      count = has.are.count;
-      become = has.are.become;
-    };
-    all = has.all;
-    gathered = has.gathered;
-    knows = has.knows;
-    last = has.last;
-    last_is = has.last_is;
-    is = has.is;
-  };
-}
+module _ {D : Type 0} (disk : DiskOf D) (d d1 : D) (told : disk.tells d → disk.tells d1)
+    (same : disk.tells d → disk.contents d1 ≡ disk.contents d) where
+  pub was_before : (sees : Sight) (entry : Entry) (seen : Option EntryView) → WasSeen disk d1 sees entry seen
+      → WasSeen disk d sees entry seen
+  was_before sees entry seen was = record {
+    sight = was.sight;
+    stands = λ t. subst (λ (l : List ℕ). IsSeen sees l entry seen) (same t) (was.stands (told t));
+  }
+
+  pub seen_before : (seen : EntriesSeen) (texts : List (List ℕ)) → AreSeen disk d1 seen texts
+      → AreSeen disk d seen texts
+  seen_before seen texts are = record {
+    stand = λ i h.
+        was_before seen.query.sees (entry_at seen.way (seen.from + i)) (slice_get seen.read i) (are.stand i h);
+    count = are.count;
+    become = are.become;
+  }

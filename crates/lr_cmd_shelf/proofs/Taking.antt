@@ -2,6 +2,7 @@
 use Rattle.std.proofs.Common.{◌≡◌, inl, inr, ℕ, ◌+◌, ◌-◌, ◌<◌, ◌≤◌, Option, Some, None, Result, Ok}
 use Rattle.std.proofs.Common.{Err, List, [], ◌∷◌, ◌++◌, length, refl, arith, ap, ◌∙◌, sym, subst}
 use Rattle.std.proofs.Common.{append-nil, append_assoc, length-append}
+use Rattle.std.specs.List.{concat}
 use Rattle.lr_bits.proofs.Telling.{tells_both, tells_still}
 use Rattle.lr_io.specs.declared.sink.Sink.{Ghosts as SinkOf}
 use Rattle.lr_io.specs.Pieces.{PutsPart}
@@ -16,21 +17,23 @@ use Rattle.lr_causes.specs.declared.cause.Cause.{Cause}
 use Rattle.lr_causes.specs.declared.cause.Cause.TheVariants.{Done, DoneWith, Usage, Failed, NoMemory, Refused}
 use Rattle.lr_causes.specs.declared.note.Note.{Note}
 use Rattle.lr_cmd_shelf.specs.declared.range.Range.{Range}
-use Rattle.lr_cmd_shelf.specs.Queries.{Query, Answer, IsSeen, EntryView, done_answer, refused_answer}
+use Rattle.lr_cmd_shelf.specs.Queries.{Query, QueryOn, Answer, EntryView, done_answer, refused_answer}
 use Rattle.lr_cmd_shelf.specs.Queries.{entry_at, fate_of, answer_of, then_rest, AnswersFrom}
 use Rattle.lr_cmd_shelf.specs.Queries.{AnswersIn, AnswersOn, BegunBy, query_over, query_on}
 use Rattle.lr_causes.specs.Causes.{FaultCounts, done_with}
 use Rattle.lr_causes.specs.Counts.{CountsTell, NoneBesides}
-use Rattle.lr_causes.specs.Outside.{outlet_counts, outlets, outlets_of}
-use Rattle.lr_cmd_shelf.specs.Runs.{Got, IsDoneWith, PutsAll, PutsFirst, PutsRefused, PutsCut, PutsSeen}
-use Rattle.lr_cmd_shelf.specs.Runs.{RunsOn, by_count, allowed_on}
+use Rattle.lr_causes.specs.Outside.{Outlets, OutletsOf, outlet_counts, outlets, outlets_of}
+use Rattle.lr_causes.specs.Puts.{GotPart, GotText}
+use Rattle.lr_cmd_shelf.specs.Runs.{Gathers, GathersOn, Got, IsDone, PutsAll, PutsFirst, PutsRefused, PutsCut}
+use Rattle.lr_cmd_shelf.specs.Runs.{RunsOn, Takes, TakesAll}
 use Rattle.lr_cmd_shelf.specs.Steps.{PutsText, CutsText, TextStops, TakesEntry, EntryStops, standing_at}
-use Rattle.lr_cmd_shelf.specs.Read.{HasGathered, IsDone}
-use Rattle.lr_cmd_shelf.proofs.Reading.{none_seen, one_more_seen, concat-push}
+use Rattle.lr_cmd_shelf.specs.Read.{EntriesTaken, HasMore, LastBecomes, NextBecomes, Reading, WasSeen, allowed_on}
+use Rattle.lr_cmd_shelf.specs.Read.{reading_on}
+use Rattle.lr_cmd_shelf.proofs.Reading.{none_seen, one_more_seen, concat-push, was_before}
 use Rattle.lr_cmd_shelf.specs.Reached.{SoFar, entries_run}
 use Rattle.lr_cmd_shelf.proofs.Answering.{reaches_first, reaches_more, refused_here, begun_before}
 use Rattle.lr_cmd_shelf.proofs.Answering.{ends_here}
-use Rattle.lr_cmd_shelf.proofs.Texts.{quiet_counts, same_counts, text_counted, last_may, entry_may}
+use Rattle.lr_cmd_shelf.proofs.Texts.{quiet_counts, same_counts, text_counted}
 use Rattle.lr_cmd_shelf.proofs.Texts.{entry_untouched, entry_told, entry_untold, text_told}
 use Rattle.lr_cmd_shelf.proofs.Texts.{text_untold}
 
@@ -83,7 +86,7 @@ module _ {D O : Type 0} (disk : DiskOf D) (out : SinkOf O) (query : Query) (way 
 
       -- nothing was put after them
       pub first_put : (left : ℕ) → number + left ≤ range.to → o2 ≡ o1
-          → PutsFirst out (record { answer = MayAnswer; begin = MayBegin }) left o o2
+          → PutsFirst out (allowed_on (query_on query way) (disk.contents d)) left o o2
       first_put left inside still = record {
         passed = number - range.from;
         text = so.text;
@@ -95,7 +98,7 @@ module _ {D O : Type 0} (disk : DiskOf D) (out : SinkOf O) (query : Query) (way 
       pub refused_put : (refusal : Refusal) → number ≤ range.to → o2 ≡ o1
           → AnswersFrom (query_over query (disk.contents d) way) (range.to - range.from) range.from []
           (refused_answer so.text refusal)
-          → PutsRefused out (record { answer = MayAnswer; begin = MayBegin }) refusal o o2
+          → PutsRefused out (allowed_on (query_on query way) (disk.contents d)) refusal o o2
       unfolding first_put
       refused_put refusal inside still is = record {
         first = first_put 0 (omega (arith, inside)) still;
@@ -105,11 +108,9 @@ module _ {D O : Type 0} (disk : DiskOf D) (out : SinkOf O) (query : Query) (way 
     -- one entry more, or the one at which it ends
     module _ (more : number < range.to) (d1 : D) (told : disk.tells d → disk.tells d1)
         (same : disk.tells d → disk.contents d1 ≡ disk.contents d) where
-      at_start : (seen : Option EntryView)
-          → (disk.tells d1 → IsSeen query.sees (disk.contents d1) (entry_at way number) seen) → disk.tells d
-          → IsSeen query.sees (disk.contents d) (entry_at way number) seen
-      at_start seen stands t =
-          subst (λ (b : List ℕ). IsSeen query.sees b (entry_at way number) seen) (same t) (stands (told t))
+      at_start : (seen : Option EntryView) → WasSeen disk d1 query.sees (entry_at way number) seen
+          → WasSeen disk d query.sees (entry_at way number) seen
+      at_start seen was = was_before disk d d1 told same query.sees (entry_at way number) seen was
 
       pub so_more : (gathers' : List EntryView → Type 0) (d2 : D)
           → TakesEntry (outlets_of disk out) (standing_at query way so.read number) gathers' (outlets d1 o1)
@@ -131,7 +132,7 @@ module _ {D O : Type 0} (disk : DiskOf D) (out : SinkOf O) (query : Query) (way 
         untouched = λ none. absurd (omega (arith, so.after, none));
         reaches = λ t.
             reaches_more query (disk.contents d) way range.from number so.read so.text (so.reaches t) takes.seen
-            (at_start (Some takes.seen) takes.stands t) takes.puts.text takes.puts.is;
+            ((at_start (Some takes.seen) takes.was).stands t) takes.puts.text takes.puts.is;
         texts = so.texts ++ takes.puts.text ∷ [];
         joined =
             ap (λ (l : List ℕ). l ++ takes.puts.text) so.joined
@@ -140,21 +141,20 @@ module _ {D O : Type 0} (disk : DiskOf D) (out : SinkOf O) (query : Query) (way 
         seen =
             let here : number ≡ range.from + length so.read = omega (arith, so.all, so.after) in
             one_more_seen disk d query way range.from so.read so.texts so.seen takes.seen takes.puts.text
-            (λ t. subst (λ n. IsSeen query.sees (disk.contents d) (entry_at way n) (Some takes.seen)) here
-            (at_start (Some takes.seen) takes.stands t))
+            (subst (λ n. WasSeen disk d query.sees (entry_at way n) (Some takes.seen)) here
+            (at_start (Some takes.seen) takes.was))
             (subst (λ n. query.fate so.read n takes.seen ≡ Ok takes.puts.text) here takes.puts.is);
       }
 
       module _ (allowed : query.range (length way.entries) ≡ Some range) (t : disk.tells d) where
         -- `out` failed in the text of the entry
-        cut_here : (seen : Option EntryView)
-            → (disk.tells d1 → IsSeen query.sees (disk.contents d1) (entry_at way number) seen)
+        cut_here : (seen : Option EntryView) → WasSeen disk d1 query.sees (entry_at way number) seen
             → CutsText out (fate_of query way so.read number seen) o1 o2
-            → PutsCut out (record { answer = (MayAnswer t allowed); begin = (MayBegin t allowed) }) o o2
-        cut_here None stands cuts = absurd (no_text cuts.is) where
+            → PutsCut out (allowed_on (query_on query way) (disk.contents d)) o o2
+        cut_here None was cuts = absurd (no_text cuts.is) where
           no_text : {e : Refusal} → ◌≡◌ {A = Result (List ℕ) Refusal} (Err e) (Ok cuts.text) → ⊥
           no_text same = cc (same)
-        cut_here (Some seen) stands cuts = record {
+        cut_here (Some seen) was cuts = record {
           passed = number - range.from;
           text = so.text;
           one = cuts.text;
@@ -172,7 +172,7 @@ module _ {D O : Type 0} (disk : DiskOf D) (out : SinkOf O) (query : Query) (way 
                 (begun_before query (disk.contents d) way range.from (number + 1) (so.read ++ seen ∷ [])
                 (so.text ++ cuts.text)
                 (reaches_more query (disk.contents d) way range.from number so.read so.text (so.reaches t) seen
-                (at_start (Some seen) stands t) cuts.text cuts.is));
+                ((at_start (Some seen) was).stands t) cuts.text cuts.is));
           }));
           some = cuts.some;
           part = λ told_out.
@@ -183,18 +183,18 @@ module _ {D O : Type 0} (disk : DiskOf D) (out : SinkOf O) (query : Query) (way 
         pub entry_got : (d2 : D) (cause : Cause)
             → EntryStops (outlets_of disk out) (standing_at query way so.read number) cause (outlets d1 o1)
             (outlets d2 o2)
-            → Got out (record { answer = (MayAnswer t allowed); begin = (MayBegin t allowed) }) cause o o2
+            → Got out (allowed_on (query_on query way) (disk.contents d)) cause o o2
         entry_got d2 Done stops = absurd stops.stops
         entry_got d2 (DoneWith note) stops = absurd stops.stops
         entry_got d2 Usage stops = absurd stops.stops
         entry_got d2 (Failed Source) stops = absurd stops.stops
         entry_got d2 (Failed Disk) stops = first_put t allowed 1 (omega (arith, more)) stops
-        entry_got d2 (Failed Output) stops = cut_here stops.seen stops.stands stops.stops
+        entry_got d2 (Failed Output) stops = cut_here stops.seen stops.was stops.stops
         entry_got d2 NoMemory stops = first_put t allowed 0 (omega (arith, more)) stops
         entry_got d2 (Refused refusal) stops =
             refused_put t allowed refusal (omega (arith, more)) stops.stops.1
             (refused_here query (disk.contents d) way range.from number so.read so.text (so.reaches t) range.to more
-            stops.seen refusal (at_start stops.seen stops.stands t) stops.stops.0)
+            stops.seen refusal ((at_start stops.seen stops.was).stands t) stops.stops.0)
 
     -- after the last entry
     module _ (inside : number ≤ range.to) (all : range.to ≤ number)
@@ -207,7 +207,7 @@ module _ {D O : Type 0} (disk : DiskOf D) (out : SinkOf O) (query : Query) (way 
           last is
 
       pub last_put : PutsText out (query.last way so.read) o1 o2
-          → PutsAll out (record { answer = (MayAnswer t allowed); begin = (MayBegin t allowed) })
+          → PutsAll out (allowed_on (query_on query way) (disk.contents d))
           (query.note so.read) o o2
       last_put puts = record {
         text = so.text ++ puts.text;
@@ -219,7 +219,7 @@ module _ {D O : Type 0} (disk : DiskOf D) (out : SinkOf O) (query : Query) (way 
       }
 
       pub last_got : (cause : Cause) → TextStops out (query.last way so.read) cause o1 o2
-          → Got out (record { answer = (MayAnswer t allowed); begin = (MayBegin t allowed) }) cause o o2
+          → Got out (allowed_on (query_on query way) (disk.contents d)) cause o o2
       last_got Done stops = absurd stops
       last_got (DoneWith note) stops = absurd stops
       last_got Usage stops = absurd stops
@@ -248,6 +248,116 @@ module _ {D O : Type 0} (disk : DiskOf D) (out : SinkOf O) (query : Query) (way 
           (λ (l : List ℕ). AnswersFrom (query_over query (disk.contents d) way) (range.to - range.from) range.from []
           (refused_answer l refusal)) (append-nil so.text) (last_from (Err refusal) stops.0))
 
+    -- what was read and put, over every disk
+    module _ (allowed : query.range (length way.entries) ≡ Some range) (inside : number ≤ range.to) (d2 : D) where
+      abbrev TakesHere : Cause → Type 0
+      TakesHere = Takes (outlets_of disk out) (reading_on (query_on query way)) (outlets d o) (outlets d2 o2)
+
+      abbrev taken_so : EntriesTaken disk d (reading_on (query_on query way))
+      taken_so = record {
+        way = way;
+        is_way = λ t. refl;
+        range = range;
+        allowed = allowed;
+        read = so.read;
+        few = omega (arith, so.all, so.after, inside);
+        texts = so.texts;
+        are = so.seen;
+      }
+
+      pub so_put : GotText out (concat so.texts) o o1
+      so_put told = so.puts.put told ∙ ap (λ (l : List ℕ). out.contents o ++ l) so.joined
+
+      first_got : o2 ≡ o1 → GotText out (concat so.texts) o o2
+      first_got still told = ap out.contents still ∙ so_put told
+
+      part_got : (one : List ℕ) → (out.tells o1 → PutsPart one (out.contents o1) (out.contents o2))
+          → GotPart out (concat so.texts) one o o2
+      part_got one part told =
+          subst (λ (l : List ℕ). PutsPart one l (out.contents o2)) (so_put told) (part (so.puts.tell.told told))
+
+      module _ (more : number < range.to) (d1 : D) (told : disk.tells d → disk.tells d1)
+          (same : disk.tells d → disk.contents d1 ≡ disk.contents d) where
+        left : HasMore disk d (reading_on (query_on query way)) taken_so
+        left = omega (arith, so.all, so.after, more)
+
+        next_becomes : (seen : Option EntryView) → WasSeen disk d1 query.sees (entry_at way number) seen
+            → (fate : Result (List ℕ) Refusal) → fate_of query way so.read number seen ≡ fate
+            → NextBecomes disk d (reading_on (query_on query way)) taken_so fate
+        next_becomes seen was fate is =
+            let here : number ≡ range.from + length so.read = omega (arith, so.all, so.after) in
+            record {
+              more = left;
+              seen = seen;
+              was = subst (λ n. WasSeen disk d query.sees (entry_at way n) seen) here
+                  (at_start more d1 told same seen was);
+              is = subst (λ n. fate_of query way so.read n seen ≡ fate) here is;
+            }
+
+        pub entry_takes : (cause : Cause)
+            → EntryStops (outlets_of disk out) (standing_at query way so.read number) cause (outlets d1 o1)
+            (outlets d2 o2)
+            → TakesHere cause
+        entry_takes Done stops = absurd stops.stops
+        entry_takes (DoneWith note) stops = absurd stops.stops
+        entry_takes Usage stops = absurd stops.stops
+        entry_takes (Failed Source) stops = absurd stops.stops
+        entry_takes (Failed Disk) stops = inr (record { taken = taken_so; after = left; put = first_got stops })
+        entry_takes (Failed Output) stops = record {
+          taken = taken_so;
+          one = stops.stops.text;
+          some = stops.stops.some;
+          next = inl (next_becomes stops.seen stops.was (Ok stops.stops.text) stops.stops.is);
+          part = part_got stops.stops.text stops.stops.fails.part;
+        }
+        entry_takes NoMemory stops = inr (record { taken = taken_so; after = tt; put = first_got stops })
+        entry_takes (Refused refusal) stops =
+            inr (record {
+              taken = taken_so;
+              after = inl (next_becomes stops.seen stops.was (Err refusal) stops.stops.0);
+              put = first_got stops.stops.1;
+            })
+
+      module _ (all : range.to ≤ number) where
+        pub last_becomes : (fate : Result (List ℕ) Refusal) → query.last way so.read ≡ fate
+            → LastBecomes disk d (reading_on (query_on query way)) taken_so fate
+        last_becomes fate is = record { all = omega (arith, so.all, inside, all); is = is }
+
+        -- the last text was put
+        abbrev pub takes_all : (note : Option Note) → query.note so.read ≡ note
+            → PutsText out (query.last way so.read) o1 o2
+            → TakesAll (outlets_of disk out) (reading_on (query_on query way)) (outlets d o) (outlets d2 o2) note
+        takes_all note is puts = record {
+          taken = taken_so;
+          last = puts.text;
+          ends = last_becomes (Ok puts.text) puts.is;
+          note_is = is;
+          put = λ told.
+              puts.puts.put (so.puts.tell.told told) ∙ ap (λ (l : List ℕ). l ++ puts.text) (so_put told)
+              ∙ append_assoc (out.contents o) (concat so.texts) puts.text;
+        }
+
+        pub last_takes : (cause : Cause) → TextStops out (query.last way so.read) cause o1 o2 → TakesHere cause
+        last_takes Done stops = absurd stops
+        last_takes (DoneWith note) stops = absurd stops
+        last_takes Usage stops = absurd stops
+        last_takes (Failed Source) stops = absurd stops
+        last_takes (Failed Disk) stops = absurd stops
+        last_takes (Failed Output) stops = record {
+          taken = taken_so;
+          one = stops.text;
+          some = stops.some;
+          next = inr (last_becomes (Ok stops.text) stops.is);
+          part = part_got stops.text stops.fails.part;
+        }
+        last_takes NoMemory stops = inr (record { taken = taken_so; after = tt; put = first_got stops })
+        last_takes (Refused refusal) stops =
+            inr (record {
+              taken = taken_so;
+              after = inr (last_becomes (Err refusal) stops.0);
+              put = first_got stops.1;
+            })
+
 -- ---- what stops a run isn't done
 
 module _ {D O : Type 0} (disk : DiskOf D) (out : SinkOf O) where
@@ -271,6 +381,24 @@ module _ {D O : Type 0} (disk : DiskOf D) (out : SinkOf O) where
   entry_undone query way read number d d' o o' NoMemory stops done = done
   entry_undone query way read number d d' o o' (Refused refusal) stops done = done
 
+-- so nothing is said of what it gathered
+module _ {D O G : Type 0} (world : OutletsOf D O) (asked : Reading) (w w' : Outlets D O)
+    (gathers : G → List EntryView → Type 0) where
+  pub undone_gathers : (cause : Cause) → (IsDone cause → ⊥) → (takes : Takes world asked w w' cause)
+      → Gathers world asked w w' gathers cause takes
+  undone_gathers Done undone takes = absurd (undone tt)
+  undone_gathers (DoneWith note) undone takes = absurd (undone tt)
+  undone_gathers Usage undone takes = tt
+  undone_gathers (Failed party) undone takes = tt
+  undone_gathers NoMemory undone takes = tt
+  undone_gathers (Refused refusal) undone takes = tt
+
+pub stops_gathers : {D O G : Type 0} (world : OutletsOf D O) (on : QueryOn) (w w' : Outlets D O)
+    (gathers : G → List EntryView → Type 0) (cause : Cause) → (IsDone cause → ⊥) → RunsOn world on cause w w'
+    → GathersOn world gathers cause w w' on
+stops_gathers world on w w' gathers cause undone runs =
+    record { runs = runs; gathered = undone_gathers world (reading_on on) w w' gathers cause undone runs.takes }
+
 -- ---- the ways out
 
 module _ {D O : Type 0} (disk : DiskOf D) (out : SinkOf O) (query : Query) (way : Way) (d : D) (o : O) where
@@ -280,7 +408,7 @@ module _ {D O : Type 0} (disk : DiskOf D) (out : SinkOf O) (query : Query) (way 
       → disk.only_read d d → (count : ℕ) → count ≡ length way.entries → query.range count ≡ None
       → RunsOn (outlets_of disk out) (query_on query way) (Refused (NoSuchFile count)) (outlets d o) (outlets d o)
   not_allowed only_now no_call count count_is none = record {
-    may = by_count count none refl;
+    takes = inl (none, refl);
     counted = quiet_counts disk out (Refused (NoSuchFile count)) d d o o tt refl refl;
     tell = record {
       by_disk = tells_still;
@@ -303,7 +431,6 @@ module _ {D O : Type 0} (disk : DiskOf D) (out : SinkOf O) (query : Query) (way 
           (ap (λ (n : ℕ). refused_answer [] (NoSuchFile n)) count_is);
     };
     untouched = λ one cuts. refl;
-    put = λ done. absurd done;
   }
 
   module _ (range : Range) (allowed : query.range (length way.entries) ≡ Some range)
@@ -324,7 +451,8 @@ module _ {D O : Type 0} (disk : DiskOf D) (out : SinkOf O) (query : Query) (way 
         (outlet_counts (outlets_of disk out) (outlets d2 o2))
         → RunsOn (outlets_of disk out) (query_on query way) cause (outlets d o) (outlets d2 o2)
     entry_stopped reads_on d2 more told2 untold2 entry_reads cause stops counted = record {
-      may = entry_may disk out query way so.read number d1 d2 o1 o2 cause stops;
+      takes = entry_takes disk out query way range d o gathers number o1 o2 so allowed (omega (arith, more)) d2 more
+          d1 told (λ t. (reads.unwritten t).contents) cause stops;
       counted =
           subst
           (λ (c : FaultCounts). CountsTell NoneBesides cause c
@@ -347,7 +475,6 @@ module _ {D O : Type 0} (disk : DiskOf D) (out : SinkOf O) (query : Query) (way 
       untouched = λ one cuts.
           entry_untouched disk out query way so.read number d1 d2 o1 o2 cause stops cuts
           ∙ so.untouched (omega (arith, so.after, more, one.one (length way.entries) range allowed));
-      put = λ done. absurd (entry_undone disk out query way so.read number d1 d2 o1 o2 cause stops done);
     }
 
     -- the last text was put, and this is told beside it
@@ -360,34 +487,11 @@ module _ {D O : Type 0} (disk : DiskOf D) (out : SinkOf O) (query : Query) (way 
           (λ (n : Option Note). PutsAll out (allowed_on (query_on query way) (disk.contents d)) n o o2) (sym is)
           (last_put disk out query way range d o gathers number o1 o2 so inside all allowed t puts)
 
-      seen_so : out.tells o → (text : List ℕ) × (out.contents o2 ≡ out.contents o ++ text) × PutsSeen query text
-      seen_so told_out = (
-        so.text ++ puts.text,
-        puts.puts.put (so.puts.tell.told told_out) ∙ ap (λ (l : List ℕ). l ++ puts.text) (so.puts.put told_out)
-            ∙ append_assoc (out.contents o) so.text puts.text,
-        record {
-          way = way;
-          range = range;
-          allowed = allowed;
-          read = so.read;
-          all = omega (arith, so.all, inside, all);
-          texts = so.texts;
-          count = so.seen.count;
-          each = so.seen.become;
-          last = puts.text;
-          last_is = puts.is;
-          is = ap (λ (l : List ℕ). l ++ puts.text) so.joined;
-        },
-      )
-
-      done_with_so : (told_note : Option Note) → told_note ≡ query.note so.read → IsDoneWith query told_note
-      done_with_so told_note is =
-          record { way = way; read = so.read; text = puts.text; last = puts.is; note = sym is }
-
       pub last_taken : (note : Option Note) → note ≡ query.note so.read
           → RunsOn (outlets_of disk out) (query_on query way) (done_with note) (outlets d o) (outlets d1 o2)
       last_taken None is = record {
-        may = done_with_so None is;
+        takes = takes_all disk out query way range d o gathers number o1 o2 so allowed inside d1 all None (sym is)
+            puts;
         counted = quiet_counts disk out Done d d1 o o2 tt count (puts.puts.kept ∙ so.puts.kept);
         tell = record {
           by_disk = record { told = told; untold = untold };
@@ -396,10 +500,10 @@ module _ {D O : Type 0} (disk : DiskOf D) (out : SinkOf O) (query : Query) (way 
         only_read = reads;
         got = λ t. put_so t None is;
         untouched = λ one cuts. absurd cuts;
-        put = λ done. seen_so;
       }
       last_taken (Some note) is = record {
-        may = done_with_so (Some note) is;
+        takes = takes_all disk out query way range d o gathers number o1 o2 so allowed inside d1 all (Some note)
+            (sym is) puts;
         counted = quiet_counts disk out (DoneWith note) d d1 o o2 tt count (puts.puts.kept ∙ so.puts.kept);
         tell = record {
           by_disk = record { told = told; untold = untold };
@@ -408,38 +512,24 @@ module _ {D O : Type 0} (disk : DiskOf D) (out : SinkOf O) (query : Query) (way 
         only_read = reads;
         got = λ t. put_so t (Some note) is;
         untouched = λ one cuts. absurd cuts;
-        put = λ done. seen_so;
       }
 
       -- what all entries gave
-      pub gathered_all : {G : Type 0} (gather : G → List EntryView → Type 0) (value : G) → gather value so.read
-          → out.tells o → (put : List ℕ) × (out.contents o2 ≡ out.contents o ++ put)
-          × HasGathered disk d (query_on query way) gather put
-      gathered_all gather value knows told_out = (
-        so.text ++ puts.text,
-        puts.puts.put (so.puts.tell.told told_out) ∙ ap (λ (l : List ℕ). l ++ puts.text) (so.puts.put told_out)
-            ∙ append_assoc (out.contents o) so.text puts.text,
-        record {
-          range = range;
-          allowed = allowed;
-          read = so.read;
-          texts = so.texts;
-          are = so.seen;
-          all = omega (arith, so.all, inside, all);
-          gathered = value;
-          knows = knows;
-          last = puts.text;
-          last_is = puts.is;
-          is = ap (λ (l : List ℕ). l ++ puts.text) so.joined;
-        },
-      )
+      pub last_gathered : {G : Type 0} (gather : G → List EntryView → Type 0) (value : G) → gather value so.read
+          → (note : Option Note) → note ≡ query.note so.read
+          → GathersOn (outlets_of disk out) gather (done_with note) (outlets d o) (outlets d1 o2) (query_on query way)
+      unfolding last_taken
+      last_gathered gather value knows None is =
+          record { runs = last_taken None is; gathered = (value, knows) }
+      last_gathered gather value knows (Some note) is =
+          record { runs = last_taken (Some note) is; gathered = (value, knows) }
 
     -- or it was not
     pub last_stopped : number ≤ range.to → range.to ≤ number → (cause : Cause)
         → TextStops out (query.last way so.read) cause o1 o2 → (query.last way so.read ≡ Ok [] → ⊥)
         → RunsOn (outlets_of disk out) (query_on query way) cause (outlets d o) (outlets d1 o2)
     last_stopped inside all cause stops some = record {
-      may = last_may disk out query way so.read o1 o2 cause stops;
+      takes = last_takes disk out query way range d o gathers number o1 o2 so allowed inside d1 all cause stops;
       counted = subst
           (λ (c : FaultCounts). CountsTell NoneBesides cause c
           (outlet_counts (outlets_of disk out) (outlets d1 o2)))
@@ -455,5 +545,4 @@ module _ {D O : Type 0} (disk : DiskOf D) (out : SinkOf O) (query : Query) (way 
       only_read = reads;
       got = λ t. last_got disk out query way range d o gathers number o1 o2 so inside all allowed t cause stops;
       untouched = λ one cuts. absurd (some (one.nothing_last way so.read));
-      put = λ done. absurd (text_undone disk out (query.last way so.read) o1 o2 cause stops done);
     }

@@ -11,13 +11,12 @@ use Rattle.lr_causes.proofs.Counting.{disk_alone, all_stay, out_alone}
 use Rattle.lr_causes.specs.Outside.{outlet_counts, outlets, outlets_of}
 use Rattle.lr_causes.specs.declared.cause.Party.TheVariants.{Source, Disk, Output}
 use Rattle.lr_causes.specs.declared.cause.Refusal.{Refusal}
-use Rattle.lr_causes.specs.declared.cause.Refusal.TheVariants.{NotAShelf}
 use Rattle.lr_causes.specs.declared.cause.Cause.{Cause}
 use Rattle.lr_causes.specs.declared.cause.Cause.TheVariants.{Done, DoneWith, Usage, Failed, NoMemory, Refused}
-use Rattle.lr_cmd_shelf.specs.Queries.{Query, IsSeen, EntryView, entry_at, fate_of}
-use Rattle.lr_cmd_shelf.proofs.Answering.{err_is}
+use Rattle.lr_cmd_shelf.specs.Queries.{Query, EntryView, entry_at, fate_of}
+use Rattle.lr_cmd_shelf.specs.Read.{WasSeen}
 use Rattle.lr_cmd_shelf.specs.Steps.{standing_at}
-use Rattle.lr_cmd_shelf.specs.Runs.{CutsNothing, MayCause, MayRefuse, at_place, at_entry, at_end}
+use Rattle.lr_cmd_shelf.specs.Runs.{CutsNothing}
 use Rattle.lr_cmd_shelf.specs.Steps.{TextStops, EntryStops}
 
 pub on_both : {T E A B C : Type 0} (r : Result T E) → (A → B → C) → OnOk r A → OnOk r B → OnOk r C
@@ -117,37 +116,7 @@ module _ {D O : Type 0} (disk : DiskOf D) (out : SinkOf O) where
   text_untold fate o o' (Refused refusal) stops t = subst (λ (x : O). out.tells x) stops.1 t
   text_untold fate o o' _ stops t = absurd stops
 
-  pub last_may : (query : Query) (way : Way) (read : List EntryView) (o o' : O) (cause : Cause)
-      → TextStops out (query.last way read) cause o o' → MayCause query cause
-  last_may query way read o o' Done stops = absurd stops
-  last_may query way read o o' (DoneWith note) stops = absurd stops
-  last_may query way read o o' Usage stops = absurd stops
-  last_may query way read o o' (Failed Source) stops = absurd stops
-  last_may query way read o o' (Failed Disk) stops = absurd stops
-  last_may query way read o o' (Failed Output) stops = tt
-  last_may query way read o o' NoMemory stops = tt
-  last_may query way read o o' (Refused refusal) stops = at_end way read stops.0
-
   module _ (query : Query) (way : Way) (read : List EntryView) (number : ℕ) (d d' : D) (o o' : O) where
-    entry_refused : (seen : Option EntryView) (refusal : Refusal) → fate_of query way read number seen ≡ Err refusal
-        → MayRefuse query refusal
-    entry_refused None refusal fate =
-        at_place (entry_at way number).gate
-        (err_is (fate_of query way read number None) refusal (NotAShelf (entry_at way number).gate) fate refl)
-    entry_refused (Some seen) refusal fate = at_entry read number seen fate
-
-    pub entry_may : (cause : Cause)
-        → EntryStops (outlets_of disk out) (standing_at query way read number) cause (outlets d o) (outlets d' o')
-        → MayCause query cause
-    entry_may Done stops = absurd stops.stops
-    entry_may (DoneWith note) stops = absurd stops.stops
-    entry_may Usage stops = absurd stops.stops
-    entry_may (Failed Source) stops = absurd stops.stops
-    entry_may (Failed Disk) stops = tt
-    entry_may (Failed Output) stops = tt
-    entry_may NoMemory stops = tt
-    entry_may (Refused refusal) stops = entry_refused stops.seen refusal stops.stops.0
-
     pub entry_untouched : (cause : Cause)
         → EntryStops (outlets_of disk out) (standing_at query way read number) cause (outlets d o) (outlets d' o')
         → CutsNothing cause
@@ -190,15 +159,15 @@ module _ {D O : Type 0} (disk : DiskOf D) (out : SinkOf O) where
 
     -- what stands there is known, and its text was not put
     pub stops_seen : (seen : Option EntryView)
-        → (disk.tells d → IsSeen query.sees (disk.contents d) (entry_at way number) seen) → (cause : Cause)
+        → WasSeen disk d query.sees (entry_at way number) seen → (cause : Cause)
         → TextStops out (fate_of query way read number seen) cause o o'
         → EntryStops (outlets_of disk out) (standing_at query way read number) cause (outlets d o) (outlets d' o')
-    stops_seen seen stands Done stops = absurd stops
-    stops_seen seen stands (DoneWith note) stops = absurd stops
-    stops_seen seen stands Usage stops = absurd stops
-    stops_seen seen stands (Failed Source) stops = absurd stops
-    stops_seen seen stands (Failed Disk) stops = absurd stops
-    stops_seen seen stands (Failed Output) stops =
-        record { seen = seen; stands = stands; stops = stops }
-    stops_seen seen stands NoMemory stops = stops
-    stops_seen seen stands (Refused refusal) stops = record { seen = seen; stands = stands; stops = stops }
+    stops_seen seen was Done stops = absurd stops
+    stops_seen seen was (DoneWith note) stops = absurd stops
+    stops_seen seen was Usage stops = absurd stops
+    stops_seen seen was (Failed Source) stops = absurd stops
+    stops_seen seen was (Failed Disk) stops = absurd stops
+    stops_seen seen was (Failed Output) stops =
+        record { seen = seen; was = was; stops = stops }
+    stops_seen seen was NoMemory stops = stops
+    stops_seen seen was (Refused refusal) stops = record { seen = seen; was = was; stops = stops }

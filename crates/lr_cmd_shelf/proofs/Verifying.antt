@@ -103,20 +103,21 @@ module _ {D O : Type 0} (disk : DiskOf D) (out : SinkOf O) (kept : KeptShelf) (r
         → Takes sound
     takes_right sound is puts = record {
       seen = plain right.0;
-      stands = λ t. (right.1 t, tt);
+      was = record { sight = tt; stands = λ t. (right.1 t, tt) };
       puts = puts;
       gathered = is ∙ sym (none_bad-whole read (record { stored = right.0; image = None }));
     }
 
     pub stops_right : (cause : Cause) → TextStops out (Ok (check_line number None)) cause o o' → Stops cause
     stops_right =
-        stops_seen disk out verify_query kept.way read number d d' o o' (Some (plain right.0)) (λ t. (right.1 t, tt))
+        stops_seen disk out verify_query kept.way read number d d' o o' (Some (plain right.0))
+        (record { sight = tt; stands = λ t. (right.1 t, tt) })
 
   module _ (stored computed : ℕ) (wrong : IsCheckRefusal disk kept number d (Crc' stored computed)) where
     pub takes_wrong : PutsText out (Ok (check_line number (Some (stored, computed)))) o o' → Takes false
     takes_wrong puts = record {
       seen = Wrong stored computed;
-      stands = wrong.1.1;
+      was = record { sight = tt; stands = wrong.1.1 };
       puts = puts;
       gathered = sym (none_bad-wrong read stored computed);
     }
@@ -124,16 +125,18 @@ module _ {D O : Type 0} (disk : DiskOf D) (out : SinkOf O) (kept : KeptShelf) (r
     pub stops_wrong : (cause : Cause) → TextStops out (Ok (check_line number (Some (stored, computed)))) cause o o'
         → Stops cause
     stops_wrong =
-        stops_seen disk out verify_query kept.way read number d d' o o' (Some (Wrong stored computed)) wrong.1.1
+        stops_seen disk out verify_query kept.way read number d d' o o' (Some (Wrong stored computed))
+        (record { sight = tt; stands = wrong.1.1 })
 
   module _ (gone : IsCheckRefusal disk kept number d Discarded') where
     pub takes_gone : (sound : Bool) → sound ≡ none_bad read → PutsText out (Ok (gone_line number)) o o' → Takes sound
     takes_gone sound is puts = record {
       seen = Absent;
-      stands = λ t. gone.2;
+      was = record { sight = tt; stands = λ t. gone.2 };
       puts = puts;
       gathered = is ∙ sym (none_bad-absent read);
     }
 
     pub stops_gone : (cause : Cause) → TextStops out (Ok (gone_line number)) cause o o' → Stops cause
-    stops_gone = stops_seen disk out verify_query kept.way read number d d' o o' (Some Absent) (λ t. gone.2)
+    stops_gone = stops_seen disk out verify_query kept.way read number d d' o o' (Some Absent)
+        (record { sight = tt; stands = λ t. gone.2 })

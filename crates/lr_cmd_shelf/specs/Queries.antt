@@ -42,6 +42,11 @@ IsSeen sees bytes entry (Some (Whole opened)) =
 IsSeen sees bytes entry (Some (Wrong stored computed)) = IsFound bytes entry (Some (Bad stored computed))
 IsSeen sees bytes entry (Some Absent) = IsFound bytes entry (Some Gone)
 
+-- of the image of a file only what such a command sees of it is seen
+abbrev pub IsSight : Sight → Option EntryView → Type 0
+IsSight sees (Some (Whole opened)) = sees opened.stored opened.image
+IsSight sees _ = Unit {0}
+
 -- ---- what it asks
 
 -- The words of a command give it by themselves. All but `sees` is plain data.

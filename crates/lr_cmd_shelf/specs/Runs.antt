@@ -1,6 +1,5 @@
 -- What a command that reads entries does to `out` and to the disk, for each cause.
-use Rattle.std.specs.Prelude.{◌≡◌, ◌⊎◌, ◌<◌, ◌+◌, ◌-◌, ℕ, Option, Some, None, Ok, Err, List, [], ◌++◌, length, take}
-use Rattle.std.specs.Prelude.{slice_get, slice_index_or}
+use Rattle.std.specs.Prelude.{◌≡◌, ◌⊎◌, ◌<◌, ◌+◌, ℕ, Option, Some, None, Ok, Err, List, ◌++◌, length}
 use Rattle.std.specs.List.{concat}
 use Rattle.lr_io.specs.declared.sink.Sink.{Ghosts as SinkOf}
 use Rattle.lr_io.specs.Pieces.{PutsPart}
@@ -11,42 +10,20 @@ use Rattle.lr_causes.specs.declared.cause.Refusal.TheVariants.{NotAShelf, NoSuch
 use Rattle.lr_causes.specs.declared.cause.Cause.{Cause}
 use Rattle.lr_causes.specs.declared.cause.Cause.TheVariants.{Done, DoneWith, Failed, NoMemory, Refused}
 use Rattle.lr_causes.specs.declared.note.Note.{Note}
-use Rattle.lr_shelf_format.specs.Way.{Way}
-use Rattle.lr_cmd_shelf.specs.Queries.{Query, QueryOn, Answer, AnswersOn, BegunBy, IsAnswer, IsBegun}
-use Rattle.lr_cmd_shelf.specs.Queries.{PutsOneText, EntryView, done_answer, query_over}
+use Rattle.lr_cmd_shelf.specs.Queries.{Query, QueryOn, Answer, IsAnswer, PutsOneText, EntryView, done_answer}
 use Rattle.lr_cmd_shelf.specs.Queries.{refused_answer}
-use Rattle.lr_cmd_shelf.specs.declared.range.Range.{Range}
-use Rattle.lr_cmd_shelf.specs.Read.{IsDone}
+use Rattle.lr_cmd_shelf.specs.Read.{Allowed, Reading, EntriesTaken, HasMore, LastBecomes, ThenBecomes}
+use Rattle.lr_cmd_shelf.specs.Read.{reading_by, reading_on}
 use Rattle.lr_causes.specs.Causes.{done_with}
 use Rattle.lr_causes.specs.Counts.{CountsTell, NoneBesides}
 use Rattle.lr_causes.specs.Outside.{Outlets, OutletsOf, outlet_counts, TellOn}
+use Rattle.lr_causes.specs.Puts.{GotPart, GotText}
 
--- what a command may be refused for, over any disk: no shelf or no item at a place, a count by which a number isn't
--- allowed, or what it says of something that was seen or of all that was
-pub data MayRefuse (query : Query) (refusal : Refusal) : Type 0 where
-  at_place : (at : ℕ) → refusal ≡ NotAShelf at → MayRefuse query refusal
-  by_count : (count : ℕ) → query.range count ≡ None → refusal ≡ NoSuchFile count → MayRefuse query refusal
-  at_entry : (read : List EntryView) (number : ℕ) (seen : EntryView) → query.fate read number seen ≡ Err refusal
-      → MayRefuse query refusal
-  at_end : (way : Way) (read : List EntryView) → query.last way read ≡ Err refusal → MayRefuse query refusal
-
--- entries were seen for which a last text stands, and this is told of them
-pub record IsDoneWith (query : Query) (told : Option Note) : Type 0 where
-  pub way : Way
-  pub read : List EntryView
-  pub text : List ℕ
-  pub last : query.last way read ≡ Ok text
-  pub note : query.note read ≡ told
-
--- the causes that it may have, over any disk
-abbrev pub MayCause : Query → Cause → Type 0
-MayCause query Done = IsDoneWith query None
-MayCause query (DoneWith note) = IsDoneWith query (Some note)
-MayCause query (Failed Disk) = Unit {0}
-MayCause query (Failed Output) = Unit {0}
-MayCause query NoMemory = Unit {0}
-MayCause query (Refused refusal) = MayRefuse query refusal
-MayCause query _ = ⊥
+-- the work was done
+abbrev pub IsDone : Cause → Type 0
+IsDone Done = Unit {0}
+IsDone (DoneWith note) = Unit {0}
+IsDone _ = ⊥
 
 -- the cause of a run that puts an answer
 abbrev pub cause_for : Option Refusal → Option Note → Cause
@@ -66,29 +43,6 @@ CutsNothing (Failed Disk) = Unit {0}
 CutsNothing NoMemory = Unit {0}
 CutsNothing (Refused refusal) = Unit {0}
 CutsNothing _ = ⊥
-
--- which answers there are, and which texts are begun
-pub record Allowed : Type 1 where
-  pub answer : Answer → Type 0
-  pub begin : (passed left : ℕ) → List ℕ → Type 0
-
--- of these bytes, and of those of a shelf of this way
-abbrev pub allowed_by : Query → List ℕ → Allowed
-allowed_by query bytes = record { answer = IsAnswer query bytes; begin = IsBegun query bytes }
-
-abbrev pub allowed_on : QueryOn → List ℕ → Allowed
-allowed_on on bytes = record {
-  answer = AnswersOn (query_over on.query bytes on.way);
-  begin = BegunBy (query_over on.query bytes on.way);
-}
-
--- what is asked, and what each list of bytes allows
-pub record Reading : Type 1 where
-  pub query : Query
-  pub allowed : List ℕ → Allowed
-
-abbrev pub reading : Query → (List ℕ → Allowed) → Reading
-reading query allowed = record { query = query; allowed = allowed }
 
 module _ {O : Type 0} (out : SinkOf O) (may : Allowed) where
   -- there is an answer that refuses nothing and tells this, and its text was put
@@ -131,24 +85,65 @@ module _ {O : Type 0} (out : SinkOf O) (may : Allowed) where
   Got (Refused refusal) o o' = PutsRefused refusal o o'
   Got _ o o' = ⊥
 
--- the texts of all entries of a range, as they were seen, one after another, and the last text
-pub record PutsSeen (query : Query) (text : List ℕ) : Type 0 where
-  pub way : Way
-  pub range : Range
-  pub allowed : query.range (length way.entries) ≡ Some range
-  pub read : List EntryView
-  pub all : length read ≡ range.to - range.from
-  pub texts : List (List ℕ)
-  pub count : length texts ≡ length read
-  pub each : (i : ℕ) (one : EntryView) → slice_get read i ≡ Some one
-      → query.fate (take i read) (range.from + i) one ≡ Ok (slice_index_or texts i [])
-  pub last : List ℕ
-  pub last_is : query.last way read ≡ Ok last
-  pub is : text ≡ concat texts ++ last
-
 module _ {D O : Type 0} (world : OutletsOf D O) where
+  module _ (asked : Reading) (w w' : Outlets D O) where
+    abbrev pub Taken : Type 0
+    Taken = EntriesTaken world.disk w.disk asked
+
+    -- all entries of the range were read, their texts and the last text were put, and this is told of them
+    pub record TakesAll (note : Option Note) : Type 0 where
+      pub taken : Taken
+      pub last : List ℕ
+      pub ends : LastBecomes world.disk w.disk asked taken (Ok last)
+      pub note_is : asked.query.note taken.read ≡ note
+      pub put : GotText world.out (concat taken.texts ++ last) w.out w'.out
+
+    -- the texts of the entries that were read were put, and nothing of what comes after them
+    pub record TakesFirst (After : Taken → Type 0) : Type 0 where
+      pub taken : Taken
+      pub after : After taken
+      pub put : GotText world.out (concat taken.texts) w.out w'.out
+
+    -- and a part of the text that comes after them
+    pub record TakesPart : Type 0 where
+      pub taken : Taken
+      pub one : List ℕ
+      pub some : 0 < length one
+      pub next : ThenBecomes world.disk w.disk asked taken (Ok one)
+      pub part : GotPart world.out (concat taken.texts) one w.out w'.out
+
+    -- nothing was read, and nothing put
+    abbrev pub TakesNone : Type 0
+    TakesNone = w'.out ≡ w.out
+
+    -- nothing was, since no shelf stands there, or since a number isn't allowed
+    abbrev pub IsRefusedFirst : Refusal → Type 0
+    IsRefusedFirst (NotAShelf at) = TakesNone
+    IsRefusedFirst (NoSuchFile count) = (asked.query.range count ≡ None) × TakesNone
+    IsRefusedFirst _ = ⊥
+
+    -- what was read and put over every disk, for each cause that there may be
+    abbrev pub Takes : Cause → Type 0
+    Takes Done = TakesAll None
+    Takes (DoneWith note) = TakesAll (Some note)
+    Takes (Failed Disk) = TakesNone ⊎ TakesFirst (HasMore world.disk w.disk asked)
+    Takes (Failed Output) = TakesPart
+    Takes NoMemory = TakesNone ⊎ TakesFirst (λ taken. Unit {0})
+    Takes (Refused refusal) =
+        IsRefusedFirst refusal
+        ⊎ TakesFirst (λ taken. ThenBecomes world.disk w.disk asked taken (Err refusal))
+    Takes _ = ⊥
+
+    -- what was gathered of all entries, where the work is done
+    module _ {G : Type 0} (gathers : G → List EntryView → Type 0) where
+      abbrev pub Gathers : (cause : Cause) → Takes cause → Type 0
+      Gathers Done takes = (gathered : G) × gathers gathered takes.taken.read
+      Gathers (DoneWith note) takes = (gathered : G) × gathers gathered takes.taken.read
+      Gathers _ takes = Unit {0}
+
   pub record RunsReading (asked : Reading) (cause : Cause) (w w' : Outlets D O) : Type 0 where
-    pub may : MayCause asked.query cause
+    -- over any disk
+    pub takes : Takes asked w w' cause
     -- no party failed but the one that the cause names
     pub counted : CountsTell NoneBesides cause (outlet_counts world w) (outlet_counts world w')
     pub tell : TellOn world w w'
@@ -159,18 +154,25 @@ module _ {D O : Type 0} (world : OutletsOf D O) where
         → Got world.out (asked.allowed (world.disk.contents w.disk)) cause w.out w'.out
     -- over any disk, where the only text is that of one entry
     pub untouched : PutsOneText asked.query → CutsNothing cause → w'.out ≡ w.out
-    -- over any disk, where the work is done
-    pub put : IsDone cause → world.out.tells w.out → (text : List ℕ)
-        × (world.out.contents w'.out ≡ world.out.contents w.out ++ text) × PutsSeen asked.query text
 
   -- a run over the entries of a shelf of this way
   abbrev pub RunsOn : QueryOn → Cause → Outlets D O → Outlets D O → Type 0
-  RunsOn on = RunsReading (reading on.query (allowed_on on))
+  RunsOn on = RunsReading (reading_on on)
 
   -- a whole run
   pub record RunsOver (query : Query) (cause : Cause) (w w' : Outlets D O) : Type 0 where
-    pub runs : RunsReading (reading query (allowed_by query)) cause w w'
+    pub runs : RunsReading (reading_by query) cause w w'
     -- what the bytes answer decides, unless an event comes before: done, or refused for this
     pub ends : (answer : Answer) → world.disk.tells w.disk
         → IsAnswer query (world.disk.contents w.disk) answer
         → (cause ≡ cause_for answer.refusal answer.note) ⊎ Precedes cause answer
+
+  -- and what was gathered of the entries that it read
+  module _ {G : Type 0} (gathers : G → List EntryView → Type 0) (cause : Cause) (w w' : Outlets D O) where
+    pub record GathersOn (on : QueryOn) : Type 0 where
+      pub runs : RunsOn on cause w w'
+      pub gathered : Gathers (reading_on on) w w' gathers cause runs.takes
+
+    pub record GathersOver (query : Query) : Type 0 where
+      pub runs : RunsOver query cause w w'
+      pub gathered : Gathers (reading_by query) w w' gathers cause runs.runs.takes

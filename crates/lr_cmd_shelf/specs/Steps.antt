@@ -11,7 +11,8 @@ use Rattle.lr_causes.specs.declared.cause.Party.TheVariants.{Disk, Output}
 use Rattle.lr_causes.specs.declared.cause.Refusal.{Refusal}
 use Rattle.lr_causes.specs.declared.cause.Cause.{Cause}
 use Rattle.lr_causes.specs.declared.cause.Cause.TheVariants.{Failed, NoMemory, Refused}
-use Rattle.lr_cmd_shelf.specs.Queries.{Query, IsSeen, EntryView, entry_at, fate_of}
+use Rattle.lr_cmd_shelf.specs.Queries.{Query, EntryView, entry_at, fate_of}
+use Rattle.lr_cmd_shelf.specs.Read.{WasSeen}
 use Rattle.lr_causes.specs.Outside.{Outlets, OutletsOf}
 use Rattle.lr_causes.specs.Puts.{Puts, PutFails}
 
@@ -50,16 +51,14 @@ module _ {D O : Type 0} (world : OutletsOf D O) (at : AtEntry) where
   -- the text of the entry was put, and it was gathered
   pub record TakesEntry (gathers : List EntryView → Type 0) (w w' : Outlets D O) : Type 0 where
     pub seen : EntryView
-    pub stands : world.disk.tells w.disk
-        → IsSeen at.query.sees (world.disk.contents w.disk) (entry_at at.way at.number) (Some seen)
+    pub was : WasSeen world.disk w.disk at.query.sees (entry_at at.way at.number) (Some seen)
     pub puts : PutsText world.out (at.query.fate at.read at.number seen) w.out w'.out
     pub gathered : gathers (at.read ++ seen ∷ [])
 
   -- what stands there is known, and its text was not put
   pub record SeenStops (cause : Cause) (w w' : Outlets D O) : Type 0 where
     pub seen : Option EntryView
-    pub stands : world.disk.tells w.disk
-        → IsSeen at.query.sees (world.disk.contents w.disk) (entry_at at.way at.number) seen
+    pub was : WasSeen world.disk w.disk at.query.sees (entry_at at.way at.number) seen
     pub stops : TextStops world.out (fate_of at.query at.way at.read at.number seen) cause w.out w'.out
 
   -- why an entry was not taken

@@ -1,11 +1,10 @@
 //! The one loop over the entries of a shelf.
-ghost use Rattle.std.specs.Prelude.{◌≡◌, ◌++◌, ℕ, List, false, [], IfErr, IfOk, OnOk};
+ghost use Rattle.std.specs.Prelude.{◌≡◌, false, [], IfErr, IfOk};
 ghost use Rattle.lr_cmd_shelf.specs.Queries.{query_on};
 ghost use Rattle.lr_shelf.specs.Kept.{kept_by};
 ghost use Rattle.lr_causes.specs.Causes.{done_with};
 ghost use Rattle.lr_causes.specs.Outside.{outlets, outlets_of};
-ghost use Rattle.lr_cmd_shelf.specs.Read.{GathersOver, HasGathered, IsDone};
-ghost use Rattle.lr_cmd_shelf.specs.Runs.{RunsOn, RunsOver};
+ghost use Rattle.lr_cmd_shelf.specs.Runs.{GathersOn, GathersOver};
 
 use crate::reads::ReadsEntries;
 use lr_causes::{Cause, Note, Refusal};
@@ -26,17 +25,12 @@ fn take_entries<C: ReadsEntries, D: Disk, O: Sink>(
 ) -> Result<Option<Note>, Cause>
     requires fresh { C.gathers command.now gathered [] }
     requires working { (kept_by shelf.old).failed ≡ false }
-    ensures takes { IfOk result (λ note. RunsOn (outlets_of D.Disk O.Sink)
-        (query_on (C.query command.now) (kept_by shelf.old).way) (done_with note)
-        (outlets disk.old out.old) (outlets disk.new out.new)) }
-    ensures stops { IfErr result (λ cause. RunsOn (outlets_of D.Disk O.Sink)
-        (query_on (C.query command.now) (kept_by shelf.old).way) cause
-        (outlets disk.old out.old) (outlets disk.new out.new)) }
-    ensures undone { IfErr result (λ cause. IsDone cause → ⊥) }
-    ensures gathers { OnOk result (O.tells out.old → (put : List ℕ)
-        × (O.contents out.new ≡ O.contents out.old ++ put)
-        × HasGathered D.Disk disk.old (query_on (C.query command.now) (kept_by shelf.old).way)
-        (C.gathers command.now) put) }
+    ensures takes { IfOk result (λ note. GathersOn (outlets_of D.Disk O.Sink) (C.gathers command.now) (done_with note)
+        (outlets disk.old out.old) (outlets disk.new out.new)
+        (query_on (C.query command.now) (kept_by shelf.old).way)) }
+    ensures stops { IfErr result (λ cause. GathersOn (outlets_of D.Disk O.Sink) (C.gathers command.now) cause
+        (outlets disk.old out.old) (outlets disk.new out.new)
+        (query_on (C.query command.now) (kept_by shelf.old).way)) }
 {
     let count = shelf.len();
     let Some(range) = command.range(count) else {
@@ -58,11 +52,8 @@ pub fn run_entries<C: ReadsEntries, D: Disk, O: Sink>(
     disk: &mut D,
     out: &mut O,
 ) -> Cause
-    ensures runs { RunsOver (outlets_of D.Disk O.Sink) (C.query command.now) result
-        (outlets disk.old out.old) (outlets disk.new out.new) }
-    ensures gathers { IsDone result → O.tells out.old → (put : List ℕ)
-        × (O.contents out.new ≡ O.contents out.old ++ put)
-        × GathersOver D.Disk disk.old (C.query command.now) (C.gathers command.now) put }
+    ensures { GathersOver (outlets_of D.Disk O.Sink) (C.gathers command.now) result
+        (outlets disk.old out.old) (outlets disk.new out.new) (C.query command.now) }
 {
     let gathered = match command.start(alloc) {
         Ok(gathered) => gathered,

@@ -17,17 +17,19 @@ use Rattle.lr_sent.specs.Sent.{AreSentFor, bits_of_blocks, symbols_of_blocks}
 use Rattle.lr_sent.proofs.SymbolsBack.{symbols_back}
 use Rattle.lr_shelf_format.specs.Way.{Way}
 use Rattle.lr_causes.specs.declared.cause.Cause.{Cause}
-use Rattle.lr_causes.specs.declared.cause.Cause.TheVariants.{Failed}
+use Rattle.lr_causes.specs.declared.cause.Cause.TheVariants.{Done, DoneWith, Failed}
 use Rattle.lr_causes.specs.declared.cause.Party.TheVariants.{Output}
 use Rattle.lr_causes.specs.declared.cause.Refusal.TheVariants.{CannotSend, BadChecksum}
+use Rattle.lr_causes.specs.declared.note.Note.{Note}
 use Rattle.lr_causes.specs.Outside.{Outlets, OutletsOf}
 use Rattle.lr_causes.specs.Puts.{Puts, PutFails}
 use Rattle.lr_disk.specs.declared.disk.Disk.{Ghosts as DiskOf}
 use Rattle.lr_cmd_shelf.specs.declared.opened.Opened.{Opened}
 use Rattle.lr_cmd_shelf.specs.declared.range.Range.{Range}
-use Rattle.lr_cmd_shelf.specs.Queries.{IsSeen, EntryView, Whole, Wrong, Absent, entry_at, no_image}
+use Rattle.lr_cmd_shelf.specs.Queries.{Query, IsSeen, EntryView, Whole, Wrong, Absent, entry_at, no_image}
 use Rattle.lr_cmd_shelf.specs.Files.{files_of}
-use Rattle.lr_cmd_shelf.specs.Read.{AreSeen, GathersOver, entries_seen}
+use Rattle.lr_cmd_shelf.specs.Read.{AreSeen, entries_seen, reading_by}
+use Rattle.lr_cmd_shelf.specs.Runs.{GathersOver, TakesAll}
 use Rattle.lr_cmd_shelf.specs.Steps.{PutsText, TextStops}
 use Rattle.lr_cmd_shelf.proofs.Filing.{files_of-absent, files_of-whole}
 use Rattle.lr_cmd_shelf.proofs.Reading.{concat-push}
@@ -37,7 +39,7 @@ use Rattle.lr_uplink.specs.Sent.{file_frames, sent}
 use Rattle.lr_uplink.specs.Standing.{UplinkStandsFor, with_file}
 use Rattle.lr_uplink.proofs.Receiving.{sent_files_are_received}
 use Rattle.lr_uplink.proofs.UnderWay.{frames_stay, sent-more}
-use Rattle.lr_cmd_transmit.specs.Received.{AreFilesBetween, IsTransmitted}
+use Rattle.lr_cmd_transmit.specs.Received.{AreFilesBetween, IsTransmitted, Transmits}
 use Rattle.lr_cmd_transmit.specs.Standing.{HasSent, IsUplinkAt, history_at, rest_bytes}
 use Rattle.lr_cmd_transmit.specs.Transmit.{added_bytes, sent_entry_text, block_for, blocks_for}
 use Rattle.lr_cmd_transmit.specs.Transmit.{files_read, frame_bytes, sending}
@@ -245,21 +247,24 @@ files_between bytes way (suc left) number (seen ∷ read) all stand sound =
     (subst (λ n. IsSeen no_image bytes (entry_at way n) (Some seen)) (omega arith) (stand 0 (omega arith)))
     (λ stored computed is. sound 0 stored computed (ap Some is))
 
-module _ {D O : Type 0} (world : OutletsOf D O) where
-  pub transmitted : (line : LineCode) (from to wrong : ℕ) (put : List ℕ) (w w' : Outlets D O)
-      → world.out.contents w'.out ≡ world.out.contents w.out ++ put
-      → GathersOver world.disk w.disk (transmit_query (sending from to wrong line))
-      (λ (uplink : Uplink) read. HasSent line wrong (files_read (files_of read)) uplink) put
-      → IsTransmitted world (sending from to wrong line) w w'
-  transmitted line from to wrong put w w' got over =
-      let has = over.has in
-      let way = over.way in
-      let files : List File = files_read (files_of has.read) in
+module _ {D O : Type 0} (world : OutletsOf D O) (line : LineCode) (from to wrong : ℕ) (w w' : Outlets D O) where
+  abbrev query : Query
+  query = transmit_query (sending from to wrong line)
+
+  abbrev gathers : Uplink → List EntryView → Type 0
+  gathers uplink read = HasSent line wrong (files_read (files_of read)) uplink
+
+  transmitted : (note : Option Note) (all : TakesAll world (reading_by query) w w' note) (uplink : Uplink)
+      → gathers uplink all.taken.read → world.out.tells w.out → IsTransmitted world (sending from to wrong line) w w'
+  transmitted note all uplink knows told =
+      let taken = all.taken in
+      let way = taken.way in
+      let files : List File = files_read (files_of taken.read) in
       let between = some_range from to (length way.entries) (nat_le from to && nat_le to (length way.entries))
-      has.range
-      has.allowed in
-      let start : has.range.from ≡ from = between.0 in
-      let none : has.last ≡ [] = sym (ok_same [] has.last has.last_is) in
+      taken.range
+      taken.allowed in
+      let start : taken.range.from ≡ from = between.0 in
+      let none : all.last ≡ [] = sym (ok_same [] all.last all.ends.is) in
       let n : ℕ = length (sent files) in
       let same : take n (sent files) ≡ sent files = take_all n (sent files) (omega arith) in
       let blocks = blocks_for wrong (take n (sent files)) in
@@ -268,26 +273,34 @@ module _ {D O : Type 0} (world : OutletsOf D O) where
       ∙ length-take-le n (sent files) (omega arith)) ∙ same in
       let sent_for : AreSentFor (sent files) (blocks_for wrong (sent files)) =
       subst (λ fs. AreSentFor fs (blocks_for wrong (sent files))) whole
-      (subst (λ fs. AreSentFor (take (length blocks) (sent files)) (blocks_for wrong fs)) same has.knows.blocks) in
+      (subst (λ fs. AreSentFor (take (length blocks) (sent files)) (blocks_for wrong fs)) same knows.blocks) in
+      let put : List ℕ = concat taken.texts ++ all.last in
       let put_is : put ≡ sent_bytes line wrong files =
-      has.is ∙ ap (λ l. concat has.texts ++ l) none ∙ append-nil (concat has.texts)
-      ∙ all_texts world.disk w.disk line wrong from to way has.range.from has.read has.texts has.are in
+      ap (λ l. concat taken.texts ++ l) none ∙ append-nil (concat taken.texts)
+      ∙ all_texts world.disk w.disk line wrong from to way taken.range.from taken.read taken.texts taken.are in
       record {
         put = put;
-        got = got;
+        got = all.put told;
         files = files;
         sent_as = put_is;
         received =
             subst (λ symbols. AreFilesOf (outcomes_of_symbols line symbols) files)
             (sym (ap symbols_of put_is ∙ symbols_read line wrong files))
-            (sent_files_are_received line files (blocks_for wrong (sent files)) has.knows.files sent_for);
+            (sent_files_are_received line files (blocks_for wrong (sent files)) knows.files sent_for);
         are = λ t. (
           way,
-          over.is_way t,
-          files_between (world.disk.contents w.disk) way (to - from) from has.read
-              (omega (arith, has.all, between.0, between.1))
+          taken.is_way t,
+          files_between (world.disk.contents w.disk) way (to - from) from taken.read
+              (omega (arith, all.ends.all, between.0, between.1))
               (λ i h. subst (λ k. IsSeen no_image (world.disk.contents w.disk) (entry_at way (k + i))
-              (slice_get has.read i)) start (has.are.stand t i h))
-              (none_wrong world.disk w.disk line wrong from to way has.range.from has.read has.texts has.are),
+              (slice_get taken.read i)) start ((taken.are.stand i h).stands t))
+              (none_wrong world.disk w.disk line wrong from to way taken.range.from taken.read taken.texts taken.are),
         );
       }
+
+  pub transmits : (cause : Cause) → GathersOver world gathers cause w w' query
+      → Transmits world (sending from to wrong line) cause w w'
+  transmits Done over done told = transmitted None over.runs.runs.takes over.gathered.0 over.gathered.1 told
+  transmits (DoneWith note) over done told =
+      transmitted (Some note) over.runs.runs.takes over.gathered.0 over.gathered.1 told
+  transmits _ over done told = absurd done

@@ -10,7 +10,7 @@ use Rattle.lr_uplink.specs.Received.{AreFilesOf}
 use Rattle.lr_causes.specs.Outside.{Outlets, OutletsOf}
 use Rattle.lr_causes.specs.declared.cause.Cause.{Cause}
 use Rattle.lr_cmd_shelf.specs.Queries.{entry_at}
-use Rattle.lr_cmd_shelf.specs.Read.{IsDone}
+use Rattle.lr_cmd_shelf.specs.Runs.{IsDone}
 use Rattle.lr_cmd_transmit.specs.Transmit.{Sending, sent_bytes}
 
 -- a sound file stands at the entry, and it is the first of these

@@ -3,4 +3,5 @@ pub mod Encoder
 pub mod Levels
 pub mod LineEncoder
 pub mod Marker
+pub mod Passes
 pub mod Symbols

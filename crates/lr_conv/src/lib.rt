@@ -15,14 +15,16 @@
 //! earlier level but the last one, which complements them all where bits are changes of level. So a receiver can look
 //! for them, as `marker_tail` of its line code or as the constant `MARKER_TAIL`, in any stream.
 //!
-//! `Symbols` defines the value of a soft symbol, as a receiver reads it.
+//! `Symbols` defines the value of a soft symbol, as a receiver reads it. `Passes` is how often a receiver decodes it.
 #![tactic(auto)]
 
 mod encoder;
 mod line;
 mod marker;
+mod passes;
 mod sums;
 
 pub use encoder::Encoder;
 pub use line::{LineCode, LineEncoder, STANDARD};
 pub use marker::{MARKER_SYMBOLS, MARKER_TAIL, TAIL_SYMBOLS, marker_tail, marker_tail_is_coded};
+pub use passes::Passes;

@@ -10,8 +10,11 @@ use Rattle.lr_bits.specs.declared.outcome.Outcome.{Outcome}
 use Rattle.lr_bits.specs.declared.placed.Placed.{Placed}
 use Rattle.lr_conv.specs.Marker.{tail_of}
 use Rattle.lr_conv.specs.declared.line.LineCode.{LineCode}
+use Rattle.lr_conv.specs.declared.passes.Passes.{Passes}
+use Rattle.lr_conv.specs.declared.passes.Passes.TheVariants.{One}
 use Rattle.lr_frame.proofs.Given.{all_outcomes, outcomes_stay}
-use Rattle.lr_frame.specs.Outcomes.{outcome_in, outcome_of_window, outcomes_of_symbols}
+use Rattle.lr_frame.proofs.Passing.{one_pass_of_all}
+use Rattle.lr_frame.specs.Outcomes.{outcomes_of_symbols, redecoded_in, redecoded_outcome}
 use Rattle.lr_bits.specs.declared.sizes.TheConstants.{FRAME_SYMBOLS}
 use Rattle.lr_layers.proofs.Pushing.{both_kinds}
 use Rattle.lr_layers.specs.Layers.{numbers_of, CountsView}
@@ -60,9 +63,9 @@ module _ (line : LineCode) (stream : List ℕ) where
 
     pub window_shown : (seen : WindowView)
         → GivesWindow (record { before = lock; later = later }) seen (symbols_of (take now stream)) given
-        → length later.kept + FRAME_SYMBOLS ≤ length lock.kept
+        → length later.kept + FRAME_SYMBOLS ≤ length lock.kept → seen.passes ≡ One
         → ShowsWindow (coded_stream line stream) (given_frames fed given) later seen (Some now)
-    window_shown seen gives shorter = (
+    window_shown seen gives shorter one = (
       gives.frame,
       record {
         inside = on.is_fed.inside;
@@ -72,7 +75,9 @@ module _ (line : LineCode) (stream : List ℕ) where
         ended = λ e. on.is_fed.ended (sym finished ∙ e);
       },
       gives.window
-          ∙ ap (λ (l : LineCode). window_view l (symbols_of (take now stream)) gives.frame) on.is_fed.line_is,
+          ∙ ap (λ (l : LineCode). window_view l seen.passes (symbols_of (take now stream)) gives.frame)
+          on.is_fed.line_is
+          ∙ ap (λ (p : Passes). window_view line p (symbols_of (take now stream)) gives.frame) one,
       on.same,
     )
 
@@ -164,10 +169,10 @@ module _ (line : LineCode) (stream : List ℕ) where
           ended = λ e. absurd (still_open e);
         };
         same =
-            ap (λ (l : List ℕ). map (outcome_in line (symbols_of l)) given) grown
-            ∙ ap (λ (l : List ℤ). map (outcome_in line l) given)
+            ap (λ (l : List ℕ). map (redecoded_in line One (symbols_of l)) given) grown
+            ∙ ap (λ (l : List ℤ). map (redecoded_in line One l) given)
             (symbols_of-append (take now stream) (take size (drop now stream)))
-            ∙ outcomes_stay line (symbols_of (take now stream)) (symbols_of (take size (drop now stream))) given
+            ∙ outcomes_stay line One (symbols_of (take now stream)) (symbols_of (take size (drop now stream))) given
             (is.stands.sure unfinished)
             ∙ on.same;
       }
@@ -228,14 +233,14 @@ module _ (line : LineCode) (stream : List ℕ) where
       → layers.numbers.restored + layers.numbers.lost < 2 ^ 48
   unfolding outcomes_given
   outcomes_few fed lock layers files is few =
-      let outcomes = map (outcome_in line (symbols_of (take fed stream))) is.given in
+      let outcomes = map (redecoded_in line One (symbols_of (take fed stream))) is.given in
       let numbers : layers.numbers ≡ numbers_of outcomes = is.layers_stand.numbers in
       omega (
         arith,
         ap (λ (n : CountsView). n.restored) numbers,
         ap (λ (n : CountsView). n.lost) numbers,
         both_kinds outcomes,
-        length-map is.given (outcome_in line (symbols_of (take fed stream))),
+        length-map is.given (redecoded_in line One (symbols_of (take fed stream))),
         is.is_fed.passed,
         is.is_fed.inside,
         few,
@@ -246,7 +251,7 @@ module _ (line : LineCode) (stream : List ℕ) where
       → (is : IsDecodedSoFar (coded_stream line stream) fed lock layers files)
       → (now : ℕ) (later : LockState) (seen : WindowView)
       → ShowsWindow (coded_stream line stream) (given_frames fed is.given) later seen (Some now)
-      → (outcome : Outcome) → outcome ≡ outcome_of_window seen.line seen.symbols → (layers' : KeptLayers)
+      → (outcome : Outcome) → outcome ≡ redecoded_outcome seen.line seen.passes seen.symbols → (layers' : KeptLayers)
       (files' : List Placed)
       → ((outcomes : List Outcome) → LayersStandFor layers outcomes
       → LayersStandFor layers' (outcomes ++ outcome ∷ []) × AddsFiles outcomes outcome files files')
@@ -255,14 +260,14 @@ module _ (line : LineCode) (stream : List ℕ) where
   decoded_more fed lock layers files is now later seen shows outcome outcome_is layers' files' pushed =
       let frame = shows.0 in
       let symbols = symbols_of (take now stream) in
-      let before : map (outcome_in line symbols) is.given ≡ outcomes_given (coded_stream line stream)
+      let before : map (redecoded_in line One symbols) is.given ≡ outcomes_given (coded_stream line stream)
       (given_frames fed is.given) = shows.3 in
-      let here : outcome ≡ outcome_in line symbols frame =
-      outcome_is ∙ ap (λ (w : WindowView). outcome_of_window w.line w.symbols) shows.2 in
-      let all : map (outcome_in line symbols) (is.given ++ frame ∷ [])
+      let here : outcome ≡ redecoded_in line One symbols frame =
+      outcome_is ∙ ap (λ (w : WindowView). redecoded_outcome w.line w.passes w.symbols) shows.2 in
+      let all : map (redecoded_in line One symbols) (is.given ++ frame ∷ [])
       ≡ outcomes_given (coded_stream line stream) (given_frames fed is.given) ++ outcome ∷ [] =
-      map_push (outcome_in line symbols) is.given frame
-      ∙ ap (λ (l : List Outcome). l ++ outcome_in line symbols frame ∷ []) before
+      map_push (redecoded_in line One symbols) is.given frame
+      ∙ ap (λ (l : List Outcome). l ++ redecoded_in line One symbols frame ∷ []) before
       ∙ ap (λ (o : Outcome). outcomes_given (coded_stream line stream) (given_frames fed is.given) ++ o ∷ [])
       (sym here) in
       let step = pushed (outcomes_given (coded_stream line stream) (given_frames fed is.given)) is.layers_stand in
@@ -284,8 +289,9 @@ module _ (line : LineCode) (stream : List ℕ) where
   unfolding outcomes_given files_of_stream
   decoded_all fed lock layers files is later seen shows =
       let whole : take (length stream) stream ≡ stream = take_all (length stream) stream (omega arith) in
-      let all : outcomes_of_symbols line (symbols_of stream) ≡ map (outcome_in line (symbols_of stream)) is.given =
-      all_outcomes line (symbols_of stream) is.given shows.0 in
+      let all : outcomes_of_symbols line (symbols_of stream)
+      ≡ map (redecoded_in line One (symbols_of stream)) is.given =
+      sym (one_pass_of_all line (symbols_of stream)) ∙ all_outcomes line One (symbols_of stream) is.given shows.0 in
       is.files_are
       ∙ ap placed_of_outcomes
-      (sym shows.1 ∙ ap (λ (l : List ℕ). map (outcome_in line (symbols_of l)) is.given) whole ∙ sym all)
+      (sym shows.1 ∙ ap (λ (l : List ℕ). map (redecoded_in line One (symbols_of l)) is.given) whole ∙ sym all)

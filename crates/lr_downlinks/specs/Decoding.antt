@@ -6,12 +6,13 @@ use Rattle.lr_bits.specs.declared.placed.Placed.{Placed}
 use Rattle.lr_bits.specs.declared.sizes.TheConstants.{FRAME_SYMBOLS}
 use Rattle.lr_conv.specs.Marker.{tail_of}
 use Rattle.lr_conv.specs.declared.line.LineCode.{LineCode}
-use Rattle.lr_frame.specs.Outcomes.{outcome_in}
+use Rattle.lr_frame.specs.Outcomes.{redecoded_in}
 use Rattle.lr_layers.specs.Origins.{placed_of_outcomes}
 use Rattle.lr_layers.specs.Standing.{KeptLayers, LayersStandFor}
 use Rattle.lr_lock.specs.Frames.{AreFrames}
 use Rattle.lr_lock.specs.Standing.{LockState, LockStandsFor}
 use Rattle.lr_lock.specs.Symbols.{symbols_of}
+use Rattle.lr_conv.specs.declared.passes.Passes.TheVariants.{One}
 use Rattle.lr_lock.specs.Windows.{WindowView, window_view}
 use Rattle.lr_lock.specs.declared.frame.Frame.{Frame}
 
@@ -51,9 +52,10 @@ module _ (stream : CodedStream) where
     pub passed : FRAME_SYMBOLS * length given.frames + length lock.kept ≤ given.fed
     pub ended : lock.finished ≡ true → given.fed ≡ length stream.symbols
 
-  -- what becomes of these frames, as far as the symbols were fed
+  -- what becomes of these frames in one pass, as far as the symbols were fed
   unfoldable pub outcomes_given : GivenFrames → List Outcome
-  outcomes_given given = map (outcome_in stream.line (symbols_of (take given.fed stream.symbols))) given.frames
+  outcomes_given given =
+      map (redecoded_in stream.line One (symbols_of (take given.fed stream.symbols))) given.frames
 
   -- more were fed, and what becomes of the frames given stays
   pub record DecodesOn (given : GivenFrames) (now : ℕ) (lock : LockState) : Type 0 where
@@ -64,7 +66,7 @@ module _ (stream : CodedStream) where
   abbrev pub ShowsWindow : GivenFrames → LockState → WindowView → Option ℕ → Type 0
   ShowsWindow given lock window (Some now) =
       (frame : Frame) × IsFed (given_frames now (given.frames ++ frame ∷ [])) lock
-      × (window ≡ window_view stream.line (symbols_of (take now stream.symbols)) frame)
+      × (window ≡ window_view stream.line One (symbols_of (take now stream.symbols)) frame)
       × (outcomes_given (given_frames now given.frames) ≡ outcomes_given given)
   ShowsWindow given lock window None =
       AreFrames (tail_of stream.line) (symbols_of stream.symbols) given.frames

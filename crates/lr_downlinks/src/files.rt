@@ -1,6 +1,7 @@
 //! From the symbols of a stream to its mission files.
 ghost use Rattle.std.specs.Prelude.{◌≡◌, ◌<◌, ◌≤◌, ◌+◌, ◌^◌, List, length, false, IfOk, IfSome};
 ghost use Rattle.lr_conv.specs.declared.line.LineCode.{LineCode as LineCode'};
+ghost use Rattle.lr_conv.specs.declared.passes.Passes.TheVariants.{One};
 ghost use Rattle.lr_lock.specs.declared.frame.Frame.{Frame};
 ghost use Rattle.lr_lock.specs.Thresholds.{lock_symbols};
 ghost use Rattle.lr_downlinks.specs.Streams.{files_of_stream};
@@ -43,12 +44,14 @@ fn feed_more(lock: &mut Lock, rest: &[u8]) -> usize
 fn show_next(lock: &mut Lock, stream: &[u8], fed: usize, window: &mut Window) -> Option<usize>
     requires few { length stream.now ≤ MOST_STREAM_SYMBOLS }
     requires line { window.old.line ≡ lock.old.line }
+    requires passes { window.old.passes ≡ One }
     requires is_fed { (line : LineCode') × (given : List Frame) × IsFed (coded_stream line stream.now)
         (given_frames fed given) lock.old }
     ensures shows { (line : LineCode') (given : List Frame) → IsFed (coded_stream line stream.now)
         (given_frames fed given) lock.old
         → ShowsWindow (coded_stream line stream.now) (given_frames fed given) lock.new window.new result }
     ensures line { window.new.line ≡ lock.new.line }
+    ensures passes { window.new.passes ≡ One }
     ensures fewer { IfSome result (λ taken. decode_steps_left stream.now taken lock.new
         < decode_steps_left stream.now fed lock.old) }
 {

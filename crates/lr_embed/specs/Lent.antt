@@ -1,6 +1,6 @@
 -- A call over bytes that the caller lends: what the station does to a source, a disk and two sinks that hold them.
 use Rattle.std.specs.List.{slice_split}
-use Rattle.std.specs.Prelude.{◌≡◌, ◌==◌, ◌⊎◌, ◌++◌, ℕ, None, IsTrue, List, [], length, drop}
+use Rattle.std.specs.Prelude.{◌≡◌, ◌==◌, ◌⊎◌, ◌<◌, ◌++◌, ℕ, None, IsTrue, List, [], length, drop}
 use Rattle.lr_disk.specs.Disk.{Only}
 use Rattle.lr_disk.specs.MemDisk.{held_by as disk_bytes, room_of as disk_room, faults_of as disk_faults}
 use Rattle.lr_disk.specs.MemDisk.{images_by, calls_allowed, calls_made, bytes_written, failing_call}
@@ -82,6 +82,7 @@ pub record RunsLent (all : StationWorld LentSource MemDisk MemSink MemSink) (giv
   pub gives_err : IsEmptySink given.err_room before.err
   pub stations : Stations all (alone (command_of given.words)) status before after
   pub unknown : (IsTrue (runs_alone_by given.words) → ⊥) → status ≡ 2
+  pub is_status : status < 256
   pub says : held_by after.outside.out ≡ said
   pub tells : held_by after.err ≡ told
   pub keeps : disk_bytes after.outside.disk ≡ left

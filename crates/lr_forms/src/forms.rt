@@ -1,6 +1,6 @@
 //! The forms of the input, and the limits of an intake.
 
-use lr_conv::LineCode;
+use lr_conv::{LineCode, Passes};
 use lr_gatecore::MOST_SEATS;
 
 /// The most bytes that a call takes from the source where no word gives another number.
@@ -18,11 +18,18 @@ pub enum UnitForm {
     Frames,
 }
 
-/// What the source gives. Blocks and frames have no line code.
+/// How soft symbols are decoded: their line code, and how many passes are made over the window of a frame.
+#[derive(Clone, Copy)]
+pub struct Decoding {
+    pub line: LineCode,
+    pub passes: Passes,
+}
+
+/// What the source gives. Blocks and frames have no line code, and are not redecoded.
 #[derive(Clone, Copy)]
 pub enum Input {
-    /// Soft symbols of this line code, each in a byte that is read as a signed one.
-    Symbols(LineCode),
+    /// Soft symbols that are decoded so, each in a byte that is read as a signed one.
+    Symbols(Decoding),
     /// Blocks or frames, one after another.
     Units(UnitForm),
 }

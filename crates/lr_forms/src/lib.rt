@@ -5,4 +5,4 @@
 
 mod forms;
 
-pub use forms::{Input, MOST_BYTES, MOST_WORKERS, Output, Stop, UnitForm};
+pub use forms::{Decoding, Input, MOST_BYTES, MOST_WORKERS, Output, Stop, UnitForm};

@@ -1,12 +1,15 @@
 -- Restored frames have 892 bytes.
-use Rattle.std.proofs.Common.{◌≡◌, ℕ, ℤ, Option, Some, None, List, length, take, refl, ◌∙◌, ap}
+use Rattle.std.proofs.Common.{◌≡◌, ℕ, ℤ, Option, Some, None, List, length, take, refl, sym, ◌∙◌, ap}
 use Rattle.lr_bits.specs.declared.outcome.Corrected.{Corrected}
 use Rattle.lr_bits.specs.declared.outcome.Outcome.TheVariants.{Restored}
 use Rattle.lr_bits.specs.declared.sizes.TheConstants.{FRAME_BYTES}
 use Rattle.lr_block.specs.Outcomes.{restored_block, first_lost, outcome_at, outcome_of_block}
 use Rattle.lr_block.specs.Randomiser.{randomised_block}
+use Rattle.lr_conv.specs.Passes.{number_of}
 use Rattle.lr_conv.specs.declared.line.LineCode.{LineCode}
-use Rattle.lr_frame.specs.Outcomes.{outcome_of_window}
+use Rattle.lr_conv.specs.declared.passes.Passes.{Passes}
+use Rattle.lr_redecode.proofs.Staying.{restored_whole}
+use Rattle.lr_frame.specs.Outcomes.{outcome_of_window, redecoded_outcome}
 
 frame_length : (block : List ℕ) → length (take FRAME_BYTES (restored_block block)) ≡ FRAME_BYTES
 unfolding restored_block
@@ -29,3 +32,10 @@ pub whole_of_window : (line : LineCode) (window : List ℤ) (frame : List ℕ) (
     Restored corrected frame ≡ outcome_of_window line window → length frame ≡ FRAME_BYTES
 unfolding outcome_of_window
 whole_of_window line window frame corrected e = whole_of_block _ frame corrected e
+
+pub whole_of_redecoded : (line : LineCode) (passes : Passes) (window : List ℤ) (frame : List ℕ)
+    (corrected : Corrected) → Restored corrected frame ≡ redecoded_outcome line passes window →
+    length frame ≡ FRAME_BYTES
+unfolding redecoded_outcome
+whole_of_redecoded line passes window frame corrected e =
+    restored_whole line window (number_of passes) frame corrected (sym e)

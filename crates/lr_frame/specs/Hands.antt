@@ -1,8 +1,11 @@
 -- What comes of a window, whoever decodes it.
 use Rattle.lr_lock.specs.Windows.{WindowView}
-use Rattle.lr_frame.specs.Outcomes.{outcome_of_window}
+use Rattle.lr_frame.specs.Outcomes.{redecoded_outcome}
 use Rattle.lr_frame.specs.declared.work.FrameDone.{FrameDone}
 
 -- the window, as it was, with the outcome of its frame
 abbrev pub done_of : WindowView → FrameDone
-done_of window = record { window = window; outcome = outcome_of_window window.line window.symbols }
+done_of window = record {
+  window = window;
+  outcome = redecoded_outcome window.line window.passes window.symbols;
+}

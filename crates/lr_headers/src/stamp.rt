@@ -2,6 +2,7 @@
 
 ghost use Rattle.std.specs.Prelude.{◌≡◌, ◌<◌, ◌++◌, ℕ, List, IfOk, OnOk, OnErr, string_bytes, pos, ◌-ℤ◌};
 ghost use Rattle.jiff.specs.Words.{epoch_day};
+ghost use Rattle.lr_headers.specs.declared.stamp.TheConstants.{DAYS_TO_1970, MILLISECONDS};
 ghost use Rattle.lr_headers.specs.Stamps.{IsDateText, IsStampText, other_text};
 
 use crate::Stamp;
@@ -36,7 +37,7 @@ pub fn stamp_text(alloc: Global, stamp: &Stamp, out: &mut Bytes) -> Result<(), N
 
 /// The date that comes this many days after 1 January 1958.
 fn day(days: u16) -> Date
-    ensures { epoch_day result ≡ pos days -ℤ pos 4383 }
+    ensures { epoch_day result ≡ pos days -ℤ DAYS_TO_1970 }
 {
     match Day::from_unix_epoch_day(i64::from(days) - DAYS_TO_1970) {
         Ok(day) => Date::from_plain(day),
@@ -45,7 +46,7 @@ fn day(days: u16) -> Date
 }
 
 fn date_text(alloc: Global, days: u16, milliseconds: u32) -> Result<String, AllocError>
-    requires { milliseconds < 86400000 }
+    requires { milliseconds < MILLISECONDS }
     ensures { IfOk result (λ text. IsDateText days milliseconds (string_bytes text)) }
 {
     let hour = milliseconds / 3_600_000;

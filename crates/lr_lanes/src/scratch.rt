@@ -26,6 +26,13 @@ impl LaneScratch {
         Ok(LaneScratch { words })
     }
 
+    /// The words of the decisions, for another decoder of the same windows between two calls.
+    pub fn words(&mut self) -> &mut [u64]
+        ensures { length result.now ≡ MOST_STEPS }
+    {
+        &mut self.words
+    }
+
     /// Keeps the decisions of a frame's window, and answers the least costs after them.
     pub(crate) fn decide(&mut self, line: LineCode, window: &[i8]) -> [u32; 64]
         requires { length window.now ≡ WINDOW_SYMBOLS }

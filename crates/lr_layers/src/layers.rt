@@ -5,7 +5,7 @@ ghost use Rattle.std.specs.Prelude.{length};
 ghost use Rattle.std.specs.Prelude.{IsTrue, None, false, sum};
 ghost use Rattle.lr_bits.specs.declared.outcome.Outcome.{Outcome as Outcome'};
 ghost use Rattle.lr_layers.specs.Layers.{frame_in, is_fill};
-ghost use Rattle.lr_mend.specs.declared.mender.TheConstants.{MOST_FILLERS};
+ghost use Rattle.lr_mend.specs.Mending.{most_fillers};
 ghost use Rattle.lr_layers.specs.Standing.{AddsFound, AddsMarked, AddsMended, AreFew, AreLayersSpent, LayersStandFor};
 ghost use Rattle.lr_layers.specs.Standing.{MendingLayersStandFor, numbers};
 ghost use Rattle.lr_layers.specs.Starts.{found};
@@ -74,7 +74,7 @@ impl Layers {
     /// No outcomes yet, and images with at most this many fillers each: with 0 no packets are mended. It takes no
     /// memory.
     pub fn mending(alloc: Global, most: u16) -> Self
-        requires { most ≤ MOST_FILLERS }
+        requires { most ≤ most_fillers }
         ensures { MendingLayersStandFor most result [] }
     {
         let joiner = Joiner {

@@ -7,6 +7,7 @@ use Rattle.std.specs.List.{range_with_len, All}
 use Rattle.lr_bits.specs.declared.sizes.TheConstants.{WINDOW_SYMBOLS}
 use Rattle.lr_conv.specs.declared.line.LineCode.{LineCode}
 use Rattle.lr_conv.specs.declared.marker.TheConstants.{MARKER_SYMBOLS}
+use Rattle.lr_conv.specs.declared.passes.Passes.{Passes}
 use Rattle.lr_lock.specs.Windows.{WindowView, window_view, window_of, window_value, turned_value}
 use Rattle.lr_lock.specs.declared.frame.Frame.{Frame}
 use Rattle.lr_lock.specs.declared.sizes.TheConstants.{WINDOW_END}
@@ -30,19 +31,26 @@ window_stays symbols more place positive h =
 abbrev Covers : List ℤ → Frame → Type 0
 Covers symbols frame = frame.place + WINDOW_END ≤ length symbols
 
-shown_stays : (line : LineCode) (symbols more : List ℤ) (frame : Frame) → frame.place + WINDOW_END ≤ length symbols →
-    window_view line (symbols ++ more) frame ≡ window_view line symbols frame
-shown_stays line symbols more frame h =
+shown_stays : (line : LineCode) (passes : Passes) (symbols more : List ℤ) (frame : Frame) →
+    frame.place + WINDOW_END ≤ length symbols →
+    window_view line passes (symbols ++ more) frame ≡ window_view line passes symbols frame
+shown_stays line passes symbols more frame h =
     let made : List ℤ → WindowView =
-    λ (s : List ℤ). record { position = frame.place; positive = frame.positive; line = line; symbols = s } in
+    λ (s : List ℤ). record {
+      position = frame.place;
+      positive = frame.positive;
+      line = line;
+      passes = passes;
+      symbols = s;
+    } in
     ap made (window_stays symbols more frame.place frame.positive h)
 
-pub all_shown_stay : (line : LineCode) (symbols more : List ℤ) (frames : List Frame) →
+pub all_shown_stay : (line : LineCode) (passes : Passes) (symbols more : List ℤ) (frames : List Frame) →
     All (λ frame. frame.place + WINDOW_END ≤ length symbols) frames →
-    map (window_view line (symbols ++ more)) frames ≡ map (window_view line symbols) frames
-all_shown_stay line symbols more [] h = refl
-all_shown_stay line symbols more (frame ∷ frames) h =
-    ap (λ (s : WindowView). s ∷ map (window_view line (symbols ++ more)) frames)
-    (shown_stays line symbols more frame (All-head (Covers symbols) frame frames h)) ∙
-    ap (λ (rest : List WindowView). window_view line symbols frame ∷ rest)
-    (all_shown_stay line symbols more frames (All-tail (Covers symbols) frame frames h))
+    map (window_view line passes (symbols ++ more)) frames ≡ map (window_view line passes symbols) frames
+all_shown_stay line passes symbols more [] h = refl
+all_shown_stay line passes symbols more (frame ∷ frames) h =
+    ap (λ (s : WindowView). s ∷ map (window_view line passes (symbols ++ more)) frames)
+    (shown_stays line passes symbols more frame (All-head (Covers symbols) frame frames h)) ∙
+    ap (λ (rest : List WindowView). window_view line passes symbols frame ∷ rest)
+    (all_shown_stay line passes symbols more frames (All-tail (Covers symbols) frame frames h))

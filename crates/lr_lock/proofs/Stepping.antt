@@ -173,6 +173,7 @@ module _ (before later : LockState) (fed : List ℤ) (given : List Frame) (passe
         position = frame.place;
         positive = frame.positive;
         line = before.line;
+        passes = seen.passes;
         symbols = window_of (drop passed before.kept) 0 frame.positive;
       } → GivesWindow (record { before = before; later = later }) seen fed given
   given_window frame seen sees big sure place kept held window =
@@ -182,7 +183,13 @@ module _ (before later : LockState) (fed : List ℤ) (given : List Frame) (passe
       let values : window_of (drop passed before.kept) 0 frame.positive ≡ window_of fed frame.place frame.positive =
       ap (λ s. window_of s 0 frame.positive) rest ∙ window_of-drop fed frame.place frame.positive in
       let made : List ℤ → WindowView = λ (s : List ℤ).
-      record { position = frame.place; positive = frame.positive; line = before.line; symbols = s } in
+      record {
+        position = frame.place;
+        positive = frame.positive;
+        line = before.line;
+        passes = seen.passes;
+        symbols = s;
+      } in
       let last : last_of None (given ++ frame ∷ []) ≡ Some frame = last_of-more None given frame in
       let frames : AreNext (tail_of before.line) fed None (given ++ frame ∷ []) =
       next_all_more (tail_of before.line) fed None given frame h.frames sees.next in

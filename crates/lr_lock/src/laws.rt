@@ -1,6 +1,7 @@
 //! Laws of frames and windows.
 
 ghost use Rattle.std.specs.Prelude.{◌≡◌, ◌≤◌, ◌+◌, ◌++◌, ℕ, ℤ, Bool, List, None, length, map, false};
+ghost use Rattle.lr_conv.specs.declared.passes.Passes.{Passes};
 ghost use Rattle.lr_lock.specs.Frames.{AreFrames, AreNext};
 ghost use Rattle.lr_lock.specs.FramesOf.{frames_of};
 ghost use Rattle.lr_lock.specs.Standing.{LockState, LockStandsFor};
@@ -38,7 +39,7 @@ pub fn window_stays()
 
 /// That the windows of the frames that a lock gave are the same whatever is fed after them.
 pub fn given_windows_stay()
-    ensures { (lock : LockState) (fed more : List ℤ) (given : List Frame) → LockStandsFor lock fed given →
-        lock.finished ≡ false →
-        map (window_view lock.line (fed ++ more)) given ≡ map (window_view lock.line fed) given }
+    ensures { (lock : LockState) (passes : Passes) (fed more : List ℤ) (given : List Frame) →
+        LockStandsFor lock fed given → lock.finished ≡ false →
+        map (window_view lock.line passes (fed ++ more)) given ≡ map (window_view lock.line passes fed) given }
 {}

@@ -204,6 +204,7 @@ impl Lock {
 
         ensures line { self.new.line ≡ self.old.line }
         ensures window_line { window.new.line ≡ window.old.line }
+        ensures window_passes { window.new.passes ≡ window.old.passes }
         ensures finished { self.new.finished ≡ self.old.finished }
 
         ensures fed { self.new.place + length self.new.kept ≡ self.old.place + length self.old.kept }

@@ -4,22 +4,24 @@ ghost use Rattle.std.specs.Prelude.{◌≡◌, ◌≢◌, ◌≤◌, pos, negsuc
 ghost use Rattle.std.specs.List.{All};
 ghost use Rattle.lr_lock.specs.Windows.{turned_value, window_of};
 ghost use Rattle.lr_lock.specs.Thresholds.{lock_symbols};
+ghost use Rattle.lr_conv.specs.declared.passes.Passes.TheVariants.{One};
 
 use crate::frame::Frame;
 use crate::sizes::LOCK_SYMBOLS;
 use lr_bits::{NoMemory, WINDOW_SYMBOLS};
-use lr_conv::{LineCode, MARKER_SYMBOLS};
+use lr_conv::{LineCode, MARKER_SYMBOLS, Passes};
 use std::alloc::Global;
 use std::marker::Model;
 
 /// What a decoder is shown of a frame: where its marker begins in the stream, its polarity, the line code of its
-/// symbols, and the 16,332 symbols after the marker (CCSDS 131.0-B, section 9.3), each times the sign of the polarity.
-/// No symbol is -128.
+/// symbols, how many passes to make over them, and the 16,332 symbols after the marker (CCSDS 131.0-B, section 9.3),
+/// each times the sign of the polarity. No symbol is -128.
 #[derive(Drop)]
 pub struct Window {
     position: u64,
     positive: bool,
     line: LineCode,
+    passes: Passes,
     values: Vec<i8>,
 }
 
@@ -35,6 +37,7 @@ impl Model for Window {
       position = w.position;
       positive = w.positive;
       line = w.line;
+      passes = w.passes;
       symbols = w.values.items;
     } };
 
@@ -68,11 +71,23 @@ fn fill(out: &mut [i8], symbols: &[i8], positive: bool)
 }
 
 impl Window {
-    /// A window of zeros of this line code, at position 0 and the positive polarity.
+    /// A window of zeros of this line code, for one pass, at position 0 and the positive polarity.
     pub fn new(alloc: Global, line: LineCode) -> Result<Self, NoMemory>
         ensures position { IfOk result (λ window. window.position ≡ 0) }
         ensures positive { IfOk result (λ window. window.positive ≡ true) }
         ensures line { IfOk result (λ window. window.line ≡ line) }
+        ensures passes { IfOk result (λ window. window.passes ≡ One) }
+        ensures symbols { IfOk result (λ window. All (λ v. v ≡ pos 0) window.symbols) }
+    {
+        Self::with_passes(alloc, line, Passes::One)
+    }
+
+    /// A window of zeros of this line code, for so many passes, at position 0 and the positive polarity.
+    pub fn with_passes(alloc: Global, line: LineCode, passes: Passes) -> Result<Self, NoMemory>
+        ensures position { IfOk result (λ window. window.position ≡ 0) }
+        ensures positive { IfOk result (λ window. window.positive ≡ true) }
+        ensures line { IfOk result (λ window. window.line ≡ line) }
+        ensures passes { IfOk result (λ window. window.passes ≡ passes) }
         ensures symbols { IfOk result (λ window. All (λ v. v ≡ pos 0) window.symbols) }
     {
         let values = vec![in alloc; 0i8; WINDOW_SYMBOLS]?;
@@ -80,6 +95,7 @@ impl Window {
             position: 0,
             positive: true,
             line,
+            passes,
             values,
         })
     }
@@ -105,6 +121,13 @@ impl Window {
         self.line
     }
 
+    /// How many passes a decoder makes over the window.
+    pub fn passes(&self) -> Passes
+        ensures { result ≡ self.now.passes }
+    {
+        self.passes
+    }
+
     /// The symbols of the window.
     pub fn symbols(&self) -> &[i8]
         ensures symbols { result.now ≡ self.now.symbols }
@@ -121,6 +144,7 @@ impl Window {
           position = frame.place;
           positive = frame.positive;
           line = self.old.line;
+          passes = self.old.passes;
           symbols = window_of symbols.now 0 frame.positive;
         } }
     {

@@ -191,7 +191,7 @@ heard_with most packets gap =
     ∙ ap (λ ps. heard most packets ++ ps) (unflagged gap)
 
 -- so it is the one that ends with the packet among the mended ones
-plain_is : (most : ℕ) (packets : List Good) (p : Good) (file : File) → file_at packets p ≡ Some file →
+pub plain_is : (most : ℕ) (packets : List Good) (p : Good) (file : File) → file_at packets p ≡ Some file →
     mended_file (mended_packets most packets ++ map filler_of (gap_before most packets p)) (came p)
     ≡ Some (whole_file file)
 plain_is most packets p file e =

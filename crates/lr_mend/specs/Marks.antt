@@ -9,7 +9,7 @@ use Rattle.lr_bits.specs.File.{File, bytes_of, file_of}
 use Rattle.lr_bits.specs.Sizes.{most_body_bytes, most_file_bytes}
 use Rattle.lr_headers.specs.Kinds.{ancillary_kind}
 use Rattle.lr_headers.specs.Tiling.{number_at}
-use Rattle.lr_mend.specs.Standing.{most_fillers}
+use Rattle.lr_mend.specs.Mending.{most_fillers}
 use Rattle.lr_mend.specs.declared.marks.MarkedFile.{MarkedFile}
 
 -- the place that follows is the next one

@@ -29,6 +29,10 @@ pub record Image : Type 0 where
 abbrev pub count_after : ℕ → ℕ
 count_after count = (count + 1) % SEQUENCE_COUNTS
 
+-- an image may have at most this many fillers
+abbrev pub most_fillers : ℕ
+most_fillers = 1023
+
 -- how many packets are missing between the last one of an image and this one
 abbrev pub missing_before : Image → Good → ℕ
 missing_before image packet = (packet.count + SEQUENCE_COUNTS - (image.count + 1)) % SEQUENCE_COUNTS
@@ -61,10 +65,22 @@ needed_before image packet = max 1 ((image.wanted + filler_units image packet - 
 abbrev pub is_over : Image → Good → Bool
 is_over image packet = nat_le (needed_before image packet) (missing_before image packet)
 
--- Fillers can come: they have a body, and the image is whole with them or the packet goes on with it.
+-- The count goes back: a packet that doesn't begin a file is a repeated one, or from before the last one. After a gap
+-- of as many packets the count would be the same.
+abbrev pub goes_back : Image → Good → Bool
+goes_back image packet =
+    not (begins_file packet) && nat_le (SEQUENCE_COUNTS - (most_fillers + 1)) (missing_before image packet)
+
+-- Fillers can end the image before this packet: the count doesn't go back, and where lines are coded a body of this
+-- image is copied. After the first packet there is none yet, and the packet after the gap may be of another image.
+abbrev pub can_end : Image → Good → Bool
+can_end image packet = not (goes_back image packet) && not (image.coded && image.first)
+
+-- Fillers can come: they have a body, and they can end the image, or the packet goes on with it.
 unfoldable pub can_fill : Image → Good → Bool
 can_fill image packet =
-    nat_lt 0 (length (filling_of image packet)) && (is_over image packet || not (begins_file packet))
+    nat_lt 0 (length (filling_of image packet))
+    && (if is_over image packet then can_end image packet else not (begins_file packet))
 
 -- how many fillers come before a packet: as many as packets are missing, or as the image needs, if it then has at most
 -- `most`; else none

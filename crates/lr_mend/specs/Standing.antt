@@ -4,12 +4,7 @@ use Rattle.lr_bits.specs.declared.sizes.TheConstants.{SEQUENCE_COUNTS}
 use Rattle.lr_bits.specs.Sizes.{most_body_bytes}
 use Rattle.lr_packet.specs.Verdict.{Good}
 use Rattle.lr_file.specs.Standing.{AreAscending, kept_of_key}
-use Rattle.lr_mend.specs.Mending.{Image, open_image}
-use Rattle.lr_mend.specs.declared.mender.TheConstants.{MOST_FILLERS}
-
--- the most fillers of an image
-abbrev pub most_fillers : ℕ
-most_fillers = MOST_FILLERS
+use Rattle.lr_mend.specs.Mending.{Image, most_fillers, open_image}
 
 -- how many fillers an image may have, the open images by their channels and applications, and whether memory was
 -- wanting

@@ -4,24 +4,28 @@ ghost use Rattle.std.specs.Prelude.{◌≡◌, ◌≤◌, ◌+◌, IfOk, OnOk, S
 ghost use Rattle.lr_packet.specs.Reading.{good};
 ghost use Rattle.lr_mend.specs.Mending.{
   begins_file,
+  can_end,
   can_fill,
   filler_body,
   fillers_before,
   filling_of,
   gap_of,
+  goes_back,
   goes_on,
   image_begun_by,
   image_with,
   is_over,
   missing_before,
+  most_fillers,
   needed_before,
   filler_units,
 };
 ghost use Rattle.lr_bits.specs.Sizes.{most_body_bytes};
 ghost use Rattle.lr_mend.specs.Reading.{opening};
-ghost use Rattle.lr_mend.specs.Standing.{most_fillers, most_wanted};
+ghost use Rattle.lr_mend.specs.Standing.{most_wanted};
 
 use crate::gap::Gap;
+use crate::mender::MOST_FILLERS;
 use crate::opening::{Opening, units_in};
 use lr_bits::{Bytes, MOST_BODY_BYTES, NoMemory, SEQUENCE_COUNTS};
 use lr_packet::GoodPacket;
@@ -162,12 +166,33 @@ impl OpenImage {
         self.needed_before(packet) <= u32::from(self.missing_before(packet))
     }
 
-    /// Whether fillers can come: they have a body, and the image is whole with them or the packet goes on with it.
+    /// Whether the count goes back, as that of a packet that comes again does.
+    fn goes_back(&self, packet: &GoodPacket) -> bool
+        ensures { result ≡ goes_back self.now (good packet.now) }
+    {
+        !begins_file(packet) && self.missing_before(packet) >= SEQUENCE_COUNTS - MOST_FILLERS - 1
+    }
+
+    /// Whether fillers can end the image: the count doesn't go back, and where lines are coded there is a body of the
+    /// image to copy, which the first one isn't.
+    fn can_end(&self, packet: &GoodPacket) -> bool
+        ensures { result ≡ can_end self.now (good packet.now) }
+    {
+        !self.goes_back(packet) && !(self.coded && self.first)
+    }
+
+    /// Whether fillers can come: they have a body, and they can end the image or the packet goes on with it.
     #[tactic(auto, unfolding(crate::specs::Mending::can_fill))]
     fn can_fill(&self, packet: &GoodPacket) -> bool
         ensures { result ≡ can_fill self.now (good packet.now) }
     {
-        !self.filling(packet).is_empty() && (self.is_over(packet) || !begins_file(packet))
+        if self.filling(packet).is_empty() {
+            return false;
+        }
+        if self.is_over(packet) {
+            return self.can_end(packet);
+        }
+        !begins_file(packet)
     }
 
     /// How many fillers come before this packet, where the image may have `most` in all.

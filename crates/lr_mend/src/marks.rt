@@ -35,11 +35,11 @@ pub struct MarkedFile {
     pub fillers: u16,
 }
 
-/// Where the primary record says how many bytes the header has, after the transport header.
-const SIZE_PLACE: usize = 14;
+/// Where the primary record says how many bytes the header has: after its kind, its length and the file type.
+const SIZE_PLACE: usize = TRANSPORT_HEADER_BYTES + 4;
 
 /// Where that number ends.
-const SIZE_END: usize = 18;
+const SIZE_END: usize = SIZE_PLACE + 4;
 
 /// Whether the place that follows is the next one.
 fn goes_on_at(place: u32, places: &[u32]) -> bool

@@ -10,9 +10,9 @@ ghost use Rattle.lr_mend.specs.Laws.{packet_mended};
 ghost use Rattle.lr_mend.specs.Marks.{whole_file};
 ghost use Rattle.lr_mend.specs.MendedFiles.{AreMendedSpent, MendedStandFor, SeamsStandFor, TakesMended, TakesOneMended};
 ghost use Rattle.lr_mend.specs.MendedFiles.{TakesPacket, file_of_packet, files_of_gap, kept_mended};
-ghost use Rattle.lr_mend.specs.Mending.{Mended as Mended', came, filler_of, gap_before, mended_packets};
+ghost use Rattle.lr_mend.specs.Mending.{Mended as Mended', came, filler_of, gap_before, mended_packets, most_fillers};
 ghost use Rattle.lr_mend.specs.Seams.{Seams};
-ghost use Rattle.lr_mend.specs.Standing.{KeptImages, MenderStandsFor, most_fillers};
+ghost use Rattle.lr_mend.specs.Standing.{KeptImages, MenderStandsFor};
 
 use crate::gap::Gap;
 use crate::marks::{MarkedFile, mark};

@@ -5,8 +5,8 @@ ghost use Rattle.lr_packet.specs.Verdict.{Good};
 ghost use Rattle.lr_packet.specs.Reading.{good};
 ghost use Rattle.lr_file.specs.Standing.{kept_of_key};
 ghost use Rattle.lr_file.specs.Steps.{SetsKey};
-ghost use Rattle.lr_mend.specs.Mending.{continued_image, gap_of, next_image};
-ghost use Rattle.lr_mend.specs.Standing.{IsMenderSpent, MenderStandsFor, most_fillers};
+ghost use Rattle.lr_mend.specs.Mending.{continued_image, gap_of, most_fillers, next_image};
+ghost use Rattle.lr_mend.specs.Standing.{IsMenderSpent, MenderStandsFor};
 
 use crate::gap::Gap;
 use crate::image::OpenImage;
@@ -98,7 +98,8 @@ pub struct Mender {
 
 impl Model for Mender {
     ghost use Rattle.std.specs.Prelude.{◌≤◌};
-    ghost use Rattle.lr_mend.specs.Standing.{KeptImages, most_fillers};
+    ghost use Rattle.lr_mend.specs.Mending.{most_fillers};
+    ghost use Rattle.lr_mend.specs.Standing.{KeptImages};
 
     ghost Value = { KeptImages };
 

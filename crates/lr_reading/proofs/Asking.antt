@@ -1,5 +1,5 @@
 -- A source that is asked, and asked again.
-use Rattle.std.proofs.Common.{◌≡◌, ◌<◌, List, [], ◌∷◌, ◌++◌, length, ℕ, Result, Ok, Err, inl, inr}
+use Rattle.std.proofs.Common.{◌≡◌, ◌<◌, ◌≤◌, List, [], ◌∷◌, ◌++◌, length, ℕ, Result, Ok, Err, inl, inr}
 use Rattle.std.proofs.Common.{⊎_elim, refl, sym, ap, ◌∙◌, subst, arith, append-nil}
 use Rattle.std.specs.List.{concat}
 use Rattle.std.proofs.lemmas.List.Folds.{concat-append}
@@ -33,7 +33,8 @@ module _ {S : Type 0} (source : SourceOf S) where
   given_on [] second s t u none later = subst (λ (x : S). HaveGiven source second x u) none later
   given_on (piece ∷ pieces) second s t u given later = (
     given.0,
-    (given.1.0, given.1.1, given.1.2, given_on pieces second given.1.0 t u given.1.3 later),
+    given.1,
+    (given.2.0, given.2.1, given.2.2, given_on pieces second given.2.0 t u given.2.3 later),
   )
 
   -- some after others
@@ -48,29 +49,30 @@ module _ {S : Type 0} (source : SourceOf S) where
 
   -- one call
   given_by : (answer : Result ℕ Failed) (piece : List ℕ) (s s' : S) → source.asked s answer s'
-      → HasGiven answer piece → 0 < length piece → source.faults s' ≡ source.faults s
+      → HasGiven answer piece → 0 < length piece → length piece ≤ FRAME_SYMBOLS → source.faults s' ≡ source.faults s
       → HaveGiven source (piece ∷ []) s s'
-  given_by (Ok count) piece s s' asked given some kept =
-      (some, (s', subst (λ (k : ℕ). source.asked s (Ok k) s') (sym given) asked, kept, refl))
-  given_by (Err failed) piece s s' asked given some kept =
+  given_by (Ok count) piece s s' asked given some few kept =
+      (some, few, (s', subst (λ (k : ℕ). source.asked s (Ok k) s') (sym given) asked, kept, refl))
+  given_by (Err failed) piece s s' asked given some few kept =
       absurd (omega (arith, some, ap (λ (l : List ℕ). length l) given))
 
   pub came_once : (piece : List ℕ) (s s' : S) → AsksOnce source s piece s' → 0 < length piece
-      → source.faults s' ≡ source.faults s → CameInPieces source piece s s'
-  came_once piece s s' once some kept =
-      (piece ∷ [], sym (append-nil piece), given_by once.0 piece s s' once.1 once.2 some kept)
+      → length piece ≤ FRAME_SYMBOLS → source.faults s' ≡ source.faults s → CameInPieces source piece s s'
+  came_once piece s s' once some few kept =
+      (piece ∷ [], sym (append-nil piece), given_by once.0 piece s s' once.1 once.2 some few kept)
 
   -- one after others, whose piece is the last one
   pub came_last : (bytes piece : List ℕ) (s t u : S) (came : CameInPieces source bytes s t)
-      → AsksOnce source t piece u → 0 < length piece → source.faults u ≡ source.faults t
+      → AsksOnce source t piece u → 0 < length piece → length piece ≤ FRAME_SYMBOLS
+      → source.faults u ≡ source.faults t
       → (more : CameInPieces source (bytes ++ piece) s u) × (more.0 ≡ came.0 ++ piece ∷ [])
-  came_last bytes piece s t u came once some kept = (
+  came_last bytes piece s t u came once some few kept = (
     (
       came.0 ++ piece ∷ [],
       ap (λ (l : List ℕ). l ++ piece) came.1
           ∙ ap (λ (l : List ℕ). concat came.0 ++ l) (sym (append-nil piece))
           ∙ sym (concat-append came.0 (piece ∷ [])),
-      given_on came.0 (piece ∷ []) s t u came.2 (given_by once.0 piece t u once.1 once.2 some kept),
+      given_on came.0 (piece ∷ []) s t u came.2 (given_by once.0 piece t u once.1 once.2 some few kept),
     ),
     refl,
   )
@@ -78,7 +80,7 @@ module _ {S : Type 0} (source : SourceOf S) where
   -- none of them failed
   all_kept : (pieces : List (List ℕ)) (s s' : S) → HaveGiven source pieces s s' → source.faults s' ≡ source.faults s
   all_kept [] s s' none = ap source.faults none
-  all_kept (piece ∷ pieces) s s' given = all_kept pieces given.1.0 s' given.1.3 ∙ given.1.2
+  all_kept (piece ∷ pieces) s s' given = all_kept pieces given.2.0 s' given.2.3 ∙ given.2.2
 
   pub none_failed : (bytes : List ℕ) (s s' : S) → CameInPieces source bytes s s' → source.faults s' ≡ source.faults s
   none_failed bytes s s' came = all_kept came.0 s s' came.2

@@ -2,25 +2,24 @@
 use Rattle.std.proofs.Common.{◌≡◌, ◌≤◌, ℕ, ℤ, Some, None, [], length, refl, sym, ap, ◌∙◌, inl, arith}
 use Rattle.std.proofs.Math.Seq.{drop-nil}
 use Rattle.std.proofs.lemmas.List.Elements.{All-nil}
+use Rattle.lr_forms.specs.declared.forms.Decoding.{Decoding}
 use Rattle.lr_bits.proofs.Telling.{tells_still}
-use Rattle.lr_conv.specs.declared.line.LineCode.{LineCode}
 use Rattle.lr_io.specs.declared.source.Source.{Ghosts as SourceOf}
-use Rattle.lr_lock.specs.Windows.{WindowView}
 use Rattle.lr_rounds.specs.JobSources.{HasGivenNothing, led}
 use Rattle.lr_reading.specs.Feeding.{FeedState, IsFreshFeed, FedSoFar, symbols_from, taken_since}
 use Rattle.lr_reading.specs.Intakes.{IsFreshIntake}
 use Rattle.lr_reading.specs.Reading.{at_source}
-use Rattle.lr_reading.specs.WindowSources.{StandsAt, window_terms}
+use Rattle.lr_reading.specs.WindowSources.{IsFor, StandsAt, decoding_of, window_terms}
 use Rattle.lr_reading.specs.declared.consumer.Consumer.{Ghosts as ConsumerOf}
 use Rattle.lr_reading.specs.declared.window_source.WindowSource.{WindowSource}
 use Rattle.lr_reading.proofs.Asking.{came_none}
 use Rattle.lr_reading.proofs.Coming.{arrivals_given-none}
 
 -- nothing is taken
-fed_begun : {S : Type 0} (source : SourceOf S) (line : LineCode) (limit : ℕ) (now : FeedState)
-    → now.lock.line ≡ line → IsFreshFeed limit now → (s : S) → FedSoFar (symbols_from source line)
+fed_begun : {S : Type 0} (source : SourceOf S) (decoding : Decoding) (limit : ℕ) (now : FeedState)
+    → now.lock.line ≡ decoding.line → IsFreshFeed limit now → (s : S) → FedSoFar (symbols_from source decoding)
     (taken_since s [] []) (at_source now s)
-fed_begun source line limit now is fresh s = record {
+fed_begun source decoding limit now is fresh s = record {
   stands = fresh.stands;
   line_is = is;
   long = fresh.taken;
@@ -40,7 +39,7 @@ pub may_begin : {S C Cause : Type 0} (source : SourceOf S) (consumer : ConsumerO
     → StandsAt source consumer (led job_source [] 0) job_source
 may_begin source consumer job_source fresh few ready =
     let intake = job_source.intake.now in
-    let line = intake.feed.lock.line in
+    let decoding = decoding_of intake in
     record {
       same_intake = refl;
       same_source = refl;
@@ -54,11 +53,11 @@ may_begin source consumer job_source fresh few ready =
       bytes = [];
       given = [];
       is_given = record {
-        feeds = fed_begun source line intake.feed.most intake.feed refl fresh.fresh job_source.source.now;
+        feeds = fed_begun source decoding intake.feed.most intake.feed refl fresh.fresh job_source.source.now;
         limit_is = refl;
         jobs = record {
-          jobs = sym (arrivals_given-none line []);
-          job_lines = All-nil (λ (w : WindowView). w.line ≡ line);
+          jobs = sym (arrivals_given-none decoding []);
+          job_lines = All-nil (IsFor decoding);
           spare_lines = fresh.lines;
           count = fresh.none;
         };

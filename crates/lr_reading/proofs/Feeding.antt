@@ -3,6 +3,7 @@ use Rattle.std.proofs.Common.{◌≡◌, ◌≤◌, ◌+◌, ◌*◌, ℕ, ℤ, 
 use Rattle.std.proofs.Common.{map, refl, sym, ap, ◌∙◌, subst, arith, length-append, length-drop}
 use Rattle.std.proofs.Common.{append_assoc, append-nil, None, Some, inl, inr, ⊎_elim}
 use Rattle.std.specs.Prelude.{is_none}
+use Rattle.lr_forms.specs.declared.forms.Decoding.{Decoding}
 use Rattle.lr_bits.specs.Faults.{Rose}
 use Rattle.lr_bits.specs.declared.outcome.Outcome.{Outcome}
 use Rattle.lr_bits.specs.declared.sizes.TheConstants.{FRAME_SYMBOLS}
@@ -16,13 +17,13 @@ use Rattle.lr_lock.specs.Symbols.{symbols_of}
 use Rattle.lr_lock.specs.Thresholds.{lock_symbols}
 use Rattle.lr_conv.specs.Marker.{tail_of}
 use Rattle.lr_conv.specs.declared.line.LineCode.{LineCode}
+use Rattle.lr_conv.specs.declared.passes.Passes.{Passes}
 use Rattle.lr_lock.specs.Windows.{WindowView, window_view}
 use Rattle.lr_lock.proofs.Bytes.{symbols_of-append, length-symbols_of}
 use Rattle.lr_lock.proofs.Stepping.{next_whole}
-use Rattle.lr_frame.specs.Outcomes.{outcome_in}
 use Rattle.lr_frame.proofs.Given.{outcomes_stay}
 use Rattle.lr_reading.specs.declared.arrival.Arrival.{Arrival}
-use Rattle.lr_reading.specs.Arrivals.{arrival_in}
+use Rattle.lr_reading.specs.Arrivals.{decoded_in, arrival_in}
 use Rattle.lr_forms.specs.declared.forms.Stop.{Stop}
 use Rattle.lr_forms.specs.declared.forms.Stop.TheVariants.{End, Limit, Fault}
 use Rattle.lr_reading.specs.Readers.{EndShort}
@@ -52,37 +53,39 @@ with_outcome frame outcome = record {
 }
 
 -- what comes of frames is the same where their outcomes are
-pub same_arrivals : (line : LineCode) (symbols others : List ℤ) (frames : List Frame)
-    → map (outcome_in line symbols) frames ≡ map (outcome_in line others) frames
-    → map (arrival_in line symbols) frames ≡ map (arrival_in line others) frames
-same_arrivals line symbols others [] is = refl
-same_arrivals line symbols others (frame ∷ frames) is =
-    let first : outcome_in line symbols frame ≡ outcome_in line others frame = cc (is) in
-    let rest : map (outcome_in line symbols) frames ≡ map (outcome_in line others) frames = cc (is) in
-    ap (λ (o : Outcome). with_outcome frame o ∷ map (arrival_in line symbols) frames) first
-    ∙ ap (λ (l : List Arrival). arrival_in line others frame ∷ l) (same_arrivals line symbols others frames rest)
+pub same_arrivals : (decoding : Decoding) (symbols others : List ℤ) (frames : List Frame)
+    → map (decoded_in decoding symbols) frames ≡ map (decoded_in decoding others) frames
+    → map (arrival_in decoding symbols) frames ≡ map (arrival_in decoding others) frames
+same_arrivals decoding symbols others [] is = refl
+same_arrivals decoding symbols others (frame ∷ frames) is =
+    let first : decoded_in decoding symbols frame ≡ decoded_in decoding others frame = cc (is) in
+    let rest : map (decoded_in decoding symbols) frames ≡ map (decoded_in decoding others) frames = cc (is) in
+    ap (λ (o : Outcome). with_outcome frame o ∷ map (arrival_in decoding symbols) frames) first
+    ∙ ap (λ (l : List Arrival). arrival_in decoding others frame ∷ l)
+    (same_arrivals decoding symbols others frames rest)
 
 -- what comes of frames whose symbols were all fed stays
-pub arrivals_given-stay : (line : LineCode) (lock : LockState) (bytes piece : List ℕ) (given : List Frame)
-    → LockStandsFor lock (symbols_of bytes) given → lock.finished ≡ false → arrivals_given line (bytes ++ piece) given
-    ≡ arrivals_given line bytes given
+pub arrivals_given-stay : (decoding : Decoding) (lock : LockState) (bytes piece : List ℕ) (given : List Frame)
+    → LockStandsFor lock (symbols_of bytes) given → lock.finished ≡ false
+    → arrivals_given decoding (bytes ++ piece) given
+    ≡ arrivals_given decoding bytes given
 unfolding arrivals_given
-arrivals_given-stay line lock bytes piece given stands unfinished =
-    ap (λ (l : List ℤ). map (arrival_in line l) given) (symbols_of-append bytes piece)
-    ∙ same_arrivals line (symbols_of bytes ++ symbols_of piece) (symbols_of bytes) given
-    (outcomes_stay line (symbols_of bytes) (symbols_of piece) given (stands.sure unfinished))
+arrivals_given-stay decoding lock bytes piece given stands unfinished =
+    ap (λ (l : List ℤ). map (arrival_in decoding l) given) (symbols_of-append bytes piece)
+    ∙ same_arrivals decoding (symbols_of bytes ++ symbols_of piece) (symbols_of bytes) given
+    (outcomes_stay decoding.line decoding.passes (symbols_of bytes) (symbols_of piece) given (stands.sure unfinished))
 
 module _ {S : Type 0} (symbols : SymbolSource S) where
   abbrev source : SourceOf S
   source = symbols.source
 
-  abbrev line : LineCode
-  line = symbols.line
+  abbrev decoding : Decoding
+  decoding = symbols.decoding
 
   -- what was taken before the lock is fed once more, which isn't finished
   module _ (IsUnderWay : Type 0) {so_far : Taken S} {before : AtSource FeedState S}
       (so : FedSoFar symbols so_far before) (unfinished : before.state.lock.finished ≡ false)
-      (one : MayAsk line IsUnderWay so_far.bytes so_far.given so_far.bytes (so.going_on unfinished).0.0) where
+      (one : MayAsk decoding IsUnderWay so_far.bytes so_far.given so_far.bytes (so.going_on unfinished).0.0) where
     abbrev bytes : List ℕ
     bytes = so_far.bytes
 
@@ -114,16 +117,16 @@ module _ {S : Type 0} (symbols : SymbolSource S) where
             before.source now.source so.moved came fed.asked refl tt);
         going_on = λ e.
             let all = came_last source bytes fed.piece so_far.first before.source now.source came fed.asked fed.some
-            fed.kept in
+            fed.within fed.kept in
             (all.0, λ short. fed.short (short_last came.0 fed.piece (subst EndShort all.1 short)));
         ended = λ e. absurd (open_still e);
       };
-      looks = inr (last_one source (MayAsk line IsUnderWay bytes so_far.given) bytes fed.piece (bytes ++ fed.piece)
+      looks = inr (last_one source (MayAsk decoding IsUnderWay bytes so_far.given) bytes fed.piece (bytes ++ fed.piece)
           so_far.first before.source now.source so.moved came fed.asked refl one);
       near = λ under_way. inr (ends_weaker (length now.state.lock.kept) lock_symbols so_far.given
           (bytes ++ fed.piece) fed.fits (ends_after (bytes ++ fed.piece) so_far.given now.state.lock
           now.state.lock.held refl (ap (λ (l : LockState). is_none l.held) fed.lock_is ∙ calm under_way) stands_now));
-      same = arrivals_given-stay line before.state.lock bytes fed.piece so_far.given so.stands unfinished;
+      same = arrivals_given-stay decoding before.state.lock bytes fed.piece so_far.given so.stands unfinished;
     }
       where
         stands_now : LockStandsFor now.state.lock (symbols_of (bytes ++ fed.piece)) so_far.given
@@ -181,7 +184,8 @@ module _ {S : Type 0} (symbols : SymbolSource S) where
 
         looks : LooksFirst symbols IsUnderWay (at_source so_far before.source) bytes now.source
         looks = ⊎_elim (λ same. inl (refl, same)) (λ once. inr (last_one source
-            (MayAsk line IsUnderWay bytes so_far.given) bytes [] bytes so_far.first before.source now.source so.moved
+            (MayAsk decoding IsUnderWay bytes so_far.given) bytes [] bytes so_far.first before.source now.source
+            so.moved
             came once (sym (append-nil bytes)) one)) fed.asked
 
   -- the lock steps
@@ -219,8 +223,8 @@ module _ {S : Type 0} (symbols : SymbolSource S) where
 
     pub window_given : GivesWindow (record { before = lock; later = later }) seen (symbols_of on.all) given
         → length later.kept + FRAME_SYMBOLS ≤ length lock.kept → length lock.kept ≤ lock_symbols
-        → GivesFrame symbols IsUnderWay before seen stepped_on
-    window_given gives shorter fits = record {
+        → seen.passes ≡ symbols.decoding.passes → GivesFrame symbols IsUnderWay before seen stepped_on
+    window_given gives shorter fits passes = record {
       all = on.all;
       frame = gives.frame;
       so_far = stepped later on.so_far gives.stands line_stays finished
@@ -241,8 +245,9 @@ module _ {S : Type 0} (symbols : SymbolSource S) where
         length-symbols_of on.all,
         fits,
       );
-      window_is = gives.window ∙ ap (λ (l : LineCode). window_view l (symbols_of on.all) gives.frame)
-          on.so_far.line_is;
+      window_is = gives.window
+          ∙ ap (λ (l : LineCode). window_view l seen.passes (symbols_of on.all) gives.frame) on.so_far.line_is
+          ∙ ap (λ (p : Passes). window_view symbols.decoding.line p (symbols_of on.all) gives.frame) passes;
       same = on.same;
     }
 
@@ -277,20 +282,20 @@ module _ {S : Type 0} (symbols : SymbolSource S) where
       → FeedsOn symbols IsUnderWay (at_source (record (before.state) { bytes = all }) t) now
       → LooksFirst symbols IsUnderWay before all t
       → (IsUnderWay → StaysNear before.state.bytes before.state.given all)
-      → arrivals_given line all before.state.given ≡ arrivals_given line before.state.bytes before.state.given
+      → arrivals_given decoding all before.state.given ≡ arrivals_given decoding before.state.bytes before.state.given
       → FeedsOn symbols IsUnderWay before now
   joined IsUnderWay {before} {all} {t} {now} on first near same = record {
     all = on.all;
     so_far = on.so_far;
     looks = ⊎_elim (λ none. subst (λ (l : List ℕ). LooksFirst symbols IsUnderWay before l now.source) (sym none.0)
         (subst (λ (x : S). LooksFirst symbols IsUnderWay before all x) (sym none.1) first))
-        (λ last. inr (last_too source (MayAsk line IsUnderWay before.state.bytes before.state.given) may last))
+        (λ last. inr (last_too source (MayAsk decoding IsUnderWay before.state.bytes before.state.given) may last))
         on.looks;
     near = λ under_way. ⊎_elim (λ stays. subst (λ (l : List ℕ). StaysNear before.state.bytes before.state.given l)
         (sym stays) (near under_way)) (λ ends. inr ends) (on.near under_way);
     same = on.same ∙ same;
   }
     where
-      may : (some : List ℕ) (pieces : List (List ℕ)) → MayAsk line IsUnderWay all before.state.given some pieces
-          → MayAsk line IsUnderWay before.state.bytes before.state.given some pieces
-      may some pieces asks = (subst (λ (l : List Arrival). HaveGivenAll line l some) same asks.0, asks.1)
+      may : (some : List ℕ) (pieces : List (List ℕ)) → MayAsk decoding IsUnderWay all before.state.given some pieces
+          → MayAsk decoding IsUnderWay before.state.bytes before.state.given some pieces
+      may some pieces asks = (subst (λ (l : List Arrival). HaveGivenAll decoding l some) same asks.0, asks.1)

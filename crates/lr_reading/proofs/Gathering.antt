@@ -6,6 +6,7 @@ use Rattle.std.proofs.lemmas.List.{length-take-le, take-append-le}
 use Rattle.std.proofs.Math.Seq.{take-append-add}
 use borrow.Rule.Slice.PartMut.{put_mid, post_of}
 use Rattle.lr_bits.proofs.Telling.{tells_both, tells_still}
+use Rattle.lr_bits.specs.declared.sizes.TheConstants.{FRAME_SYMBOLS}
 use Rattle.lr_io.specs.declared.source.Source.{Ghosts as SourceOf}
 use Rattle.lr_reading.proofs.Asking.{came_none, came_on, came_once, last_one}
 use Rattle.lr_reading.specs.Gathering.{UnitState, Gathers, GathersOn}
@@ -57,13 +58,14 @@ module _ {S : Type 0} (source : SourceOf S) (n : ℕ) where
     }
 
     -- and it gave some bytes
-    pub piece_gathered : 0 < count → source.faults s' ≡ source.faults s
+    pub piece_gathered : 0 < count → count ≤ FRAME_SYMBOLS → source.faults s' ≡ source.faults s
         → GathersOn source n (at_source before s) (at_source filled_up s')
     unfolding piece_taken
-    piece_gathered some kept = (
-      piece_taken,
-      came_once source (take count into) s s' asked (omega (arith, some, length-take-le count into enough)) kept,
-    )
+    piece_gathered some fits kept =
+        let long = length-take-le count into enough in (
+          piece_taken,
+          came_once source (take count into) s s' asked (omega (arith, some, long)) (omega (arith, fits, long)) kept,
+        )
 
   -- the call failed, whatever was written
   pub none_taken : (s s' : S) (before : UnitState) (buffer into : List ℕ) (filled room taken most : ℕ)

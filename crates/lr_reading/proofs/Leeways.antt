@@ -25,8 +25,8 @@ fewer_units Frames beyond few many total le come = omega (arith, le, come)
 
 pub come_fewer : (input : Input) (beyond : ℕ) (bytes : List ℕ) (few many : ℕ) → few ≤ many
     → HaveCome input beyond bytes many → HaveCome input beyond bytes few
-come_fewer (Symbols line) beyond bytes few many le come =
-    let frames : List Frame = frames_of (tail_of line) (symbols_of bytes) in
+come_fewer (Symbols decoding) beyond bytes few many le come =
+    let frames : List Frame = frames_of (tail_of decoding.line) (symbols_of bytes) in
     let HasCome : Frame → Type 0 = λ (frame : Frame). place_after_frame frame + beyond ≤ length bytes in (
       omega (arith, le, come.0),
       All-first HasCome (take few frames) (take (many - few) (drop few frames))
@@ -37,7 +37,7 @@ come_fewer (Units form) beyond bytes few many le come = fewer_units form beyond 
 -- with less after it
 pub come_sooner : (input : Input) (less more : ℕ) (bytes : List ℕ) (count : ℕ) → less ≤ more
     → HaveCome input more bytes count → HaveCome input less bytes count
-come_sooner (Symbols line) less more bytes count le come =
+come_sooner (Symbols decoding) less more bytes count le come =
     (come.0, λ k frame within. omega (arith, le, come.1 k frame within))
 come_sooner (Units form) less more bytes count le come = omega (arith, le, come)
 
@@ -57,7 +57,7 @@ one_at_least false workers some = omega (arith, some)
 -- with one worker fewer may wait than with several
 pub stricter_alone : (input : Input) (workers : ℕ) → 1 ≤ workers
     → IsStricter (leeway_for input 1) (leeway_for input workers)
-stricter_alone (Symbols line) workers some =
+stricter_alone (Symbols decoding) workers some =
     let least : 1 ≤ windows_for workers = one_at_least (workers == 1) workers some in
     record {
       tail = refl;

@@ -28,5 +28,5 @@ stops_at_once course some stopped cause now stops = record {
   ));
   in_time = inl (refl, refl);
   stops = λ c taken. stops c [] taken;
-  begins = λ line is tells few calm. (arrivals_of course.input ([] ++ course.source.left now.source), refl);
+  begins = λ decoding is tells few calm. (arrivals_of course.input ([] ++ course.source.left now.source), refl);
 }

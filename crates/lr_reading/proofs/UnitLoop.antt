@@ -171,7 +171,7 @@ module _ {S C : Type 0} (source : SourceOf S) (took : C → List Arrival → C �
             (ComeInTime (Units form) (leeway_for (Units form) 1) 1 (arrivals_of_units form so.units ++ arrival ∷ []))
             (concat so.units ++ next.held) s s' (λ given pieces short. came given pieces short) reads_now.in_need;
         stops = λ c none. stops c (arrivals_of_units form so.units) (so.taken c none);
-        begins = λ line symbols told few calm. cc (symbols);
+        begins = λ decoding symbols told few calm. cc (symbols);
       }
         where
           came : (given : List ℕ) (pieces : List (List ℕ)) → IsShortOfOne n so.units given

@@ -5,17 +5,17 @@ use Rattle.std.specs.Prelude.{All}
 use Rattle.std.specs.List.{range_with_len}
 use Rattle.std.proofs.lemmas.List.{length-take-le}
 use Rattle.std.proofs.lemmas.List.Elements.{All-nil, All-cons, All-head, All-tail}
+use Rattle.lr_forms.specs.declared.forms.Decoding.{Decoding}
 use Rattle.lr_bits.specs.declared.outcome.Outcome.{Outcome}
 use Rattle.lr_bits.specs.declared.outcome.Outcome.TheVariants.{Restored, Lost}
 use Rattle.lr_block.specs.Outcomes.{outcome_of_block}
-use Rattle.lr_conv.specs.declared.line.LineCode.{LineCode}
 use Rattle.lr_conv.specs.Marker.{tail_of}
 use Rattle.lr_lock.specs.FramesOf.{frames_of}
 use Rattle.lr_lock.specs.Symbols.{symbols_of}
 use Rattle.lr_lock.specs.declared.frame.Frame.{Frame}
-use Rattle.lr_frame.specs.Outcomes.{outcome_of_window, outcome_in}
-use Rattle.lr_frame.proofs.Whole.{whole_of_block, whole_of_window}
-use Rattle.lr_reading.specs.Arrivals.{HasWholeFrame, arrival_in, arrival_of, arrivals_of_units, arrivals_of}
+use Rattle.lr_frame.specs.Outcomes.{redecoded_outcome}
+use Rattle.lr_frame.proofs.Whole.{whole_of_block, whole_of_redecoded}
+use Rattle.lr_reading.specs.Arrivals.{decoded_in, HasWholeFrame, arrival_in, arrival_of, arrivals_of_units, arrivals_of}
 use Rattle.lr_reading.specs.Inputs.{unit_bytes, outcome_of_unit}
 use Rattle.lr_reading.specs.Reading.{unit_of, units_of}
 use Rattle.lr_reading.specs.declared.arrival.Arrival.{Arrival}
@@ -24,10 +24,12 @@ use Rattle.lr_forms.specs.declared.forms.Input.TheVariants.{Symbols, Units}
 use Rattle.lr_forms.specs.declared.forms.UnitForm.{UnitForm}
 use Rattle.lr_forms.specs.declared.forms.UnitForm.TheVariants.{Blocks, Frames}
 
-pub whole_window : (line : LineCode) (window : List ℤ) (outcome : Outcome) → outcome ≡ outcome_of_window line window
+pub whole_window : (decoding : Decoding) (window : List ℤ) (outcome : Outcome) → outcome
+    ≡ redecoded_outcome decoding.line decoding.passes window
     → HasWholeFrame outcome
-whole_window line window (Lost word) is = tt
-whole_window line window (Restored corrected frame) is = whole_of_window line window frame corrected is
+whole_window decoding window (Lost word) is = tt
+whole_window decoding window (Restored corrected frame) is = whole_of_redecoded decoding.line decoding.passes window
+    frame corrected is
 
 whole_block : (block : List ℕ) (outcome : Outcome) → outcome ≡ outcome_of_block block → HasWholeFrame outcome
 whole_block block (Lost word) is = tt
@@ -41,12 +43,12 @@ whole_unit Frames unit long = long
 abbrev IsWhole : Arrival → Type 0
 IsWhole arrival = HasWholeFrame arrival.outcome
 
-whole_frames : (line : LineCode) (symbols : List ℤ) (frames : List Frame)
-    → All (λ (arrival : Arrival). IsWhole arrival) (map (arrival_in line symbols) frames)
-whole_frames line symbols [] = All-nil IsWhole
-whole_frames line symbols (frame ∷ frames) =
-    All-cons IsWhole (arrival_in line symbols frame) (map (arrival_in line symbols) frames)
-    (whole_window line _ (outcome_in line symbols frame) refl) (whole_frames line symbols frames)
+whole_frames : (decoding : Decoding) (symbols : List ℤ) (frames : List Frame)
+    → All (λ (arrival : Arrival). IsWhole arrival) (map (arrival_in decoding symbols) frames)
+whole_frames decoding symbols [] = All-nil IsWhole
+whole_frames decoding symbols (frame ∷ frames) =
+    All-cons IsWhole (arrival_in decoding symbols frame) (map (arrival_in decoding symbols) frames)
+    (whole_window decoding _ (decoded_in decoding symbols frame) refl) (whole_frames decoding symbols frames)
 
 -- ---- units
 
@@ -83,7 +85,7 @@ units_long form bytes = long_units (unit_bytes form) bytes 0 (length bytes / uni
 pub all_whole : (input : Input) (bytes : List ℕ)
     → All (λ (arrival : Arrival). HasWholeFrame arrival.outcome) (arrivals_of input bytes)
 unfolding arrivals_of
-all_whole (Symbols line) bytes =
-    whole_frames line (symbols_of bytes) (frames_of (tail_of line) (symbols_of bytes))
+all_whole (Symbols decoding) bytes =
+    whole_frames decoding (symbols_of bytes) (frames_of (tail_of decoding.line) (symbols_of bytes))
 all_whole (Units form) bytes =
     whole_units form (units_of (unit_bytes form) bytes) (units_long form bytes)

@@ -4,7 +4,7 @@ use Rattle.std.proofs.Common.{ap, ◌∙◌, arith, vec_len, vec_capacity, inl, 
 use Rattle.std.proofs.lemmas.List.{map-append}
 use Rattle.std.proofs.lemmas.List.Elements.{All-push}
 use Rattle.lr_bits.specs.declared.sizes.TheConstants.{FRAME_SYMBOLS}
-use Rattle.lr_conv.specs.declared.line.LineCode.{LineCode}
+use Rattle.lr_forms.specs.declared.forms.Decoding.{Decoding}
 use Rattle.lr_lock.specs.declared.sizes.TheConstants.{WINDOW_END}
 use Rattle.lr_lock.specs.Symbols.{symbols_of}
 use Rattle.lr_lock.specs.Windows.{WindowView}
@@ -14,7 +14,7 @@ use Rattle.lr_reading.specs.Arrivals.{arrival_in}
 use Rattle.lr_reading.specs.Feeding.{SymbolSource, arrivals_given, most_kept, FeedsOn, MayAsk, LooksFirst}
 use Rattle.lr_reading.specs.Feeding.{GivesFrame, EndsFrames}
 use Rattle.lr_reading.specs.Reading.{AtSource, at_source}
-use Rattle.lr_reading.specs.WindowSources.{arrival_of_window, AreOfLine, LooksForSpare, IsGiven, GivesMore}
+use Rattle.lr_reading.specs.WindowSources.{IsFor, arrival_of_window, AreDecoded, LooksForSpare, IsGiven, GivesMore}
 use Rattle.lr_reading.specs.WindowSources.{IsOver, Progress, stream_of}
 use Rattle.lr_reading.specs.declared.arrival.Arrival.{Arrival}
 use Rattle.lr_reading.specs.declared.intake.Intake.{Intake}
@@ -25,8 +25,8 @@ use Rattle.lr_reading.proofs.WindowJobs.{as_many}
 
 module _ {S : Type 0} (symbols : SymbolSource S) (limit : ℕ) {so_far : Progress S} {old : AtSource Intake S}
     (so : IsGiven (stream_of symbols limit) so_far old) where
-  abbrev line : LineCode
-  line = symbols.line
+  abbrev decoding : Decoding
+  decoding = symbols.decoding
 
   abbrev bytes : List ℕ
   bytes = so_far.taken.bytes
@@ -36,7 +36,7 @@ module _ {S : Type 0} (symbols : SymbolSource S) (limit : ℕ) {so_far : Progres
 
   -- as many frames were given as windows
   pub given_is : length so_far.windows ≡ length given
-  given_is = sym (as_many so.jobs) ∙ arrivals_given-counted line bytes given
+  given_is = sym (as_many so.jobs) ∙ arrivals_given-counted decoding bytes given
 
   -- so there are few
   pub few_given : FRAME_SYMBOLS * length so_far.windows ≤ limit
@@ -50,14 +50,14 @@ module _ {S : Type 0} (symbols : SymbolSource S) (limit : ℕ) {so_far : Progres
         → LooksForSpare symbols so_far.taken all old s'
     looked all looks = ⊎_elim (λ none. inl none) (λ last. inr (
       spare,
-      last_too symbols.source (MayAsk line (vec_len old.state.spare < vec_capacity old.state.spare) bytes given)
+      last_too symbols.source (MayAsk decoding (vec_len old.state.spare < vec_capacity old.state.spare) bytes given)
           (λ some pieces asks. (asks.0, λ under_way. asks.1 (says under_way))) last,
     )) looks
 
     pub gives_window : (window : WindowView)
         → GivesFrame symbols IsUnderWay (at_source so_far.taken old.source) window (at_source intake'.feed s')
         → intake'.feed.most ≡ old.state.feed.most → intake'.ended ≡ None → intake'.frames ≡ old.state.frames
-        → AreOfLine line intake'.spare.items → length intake'.feed.lock.kept ≤ most_kept
+        → AreDecoded decoding intake'.spare.items → length intake'.feed.lock.kept ≤ most_kept
         → GivesMore (stream_of symbols limit) (record so_far { windows = so_far.windows ++ window ∷ [] }) old
         (at_source intake' s')
     gives_window window gives most still frames lines short = record {
@@ -69,8 +69,8 @@ module _ {S : Type 0} (symbols : SymbolSource S) (limit : ℕ) {so_far : Progres
         jobs = record {
           jobs = map-append arrival_of_window so_far.windows (window ∷ [])
               ∙ ap (λ (l : List Arrival). l ++ arrival_of_window window ∷ []) so.jobs.jobs ∙ sym grows;
-          job_lines = All-push (λ (w : WindowView). w.line ≡ line) so_far.windows window so.jobs.job_lines
-              (ap (λ (w : WindowView). w.line) gives.window_is);
+          job_lines = All-push (IsFor decoding) so_far.windows window so.jobs.job_lines
+              (ap (λ (w : WindowView). w.line) gives.window_is, ap (λ (w : WindowView). w.passes) gives.window_is);
           spare_lines = lines;
           count = frames ∙ so.jobs.count;
         };
@@ -85,18 +85,18 @@ module _ {S : Type 0} (symbols : SymbolSource S) (limit : ℕ) {so_far : Progres
           (λ some. says (under some)) gives.near gives.frame gives.whole gives.ahead close;
     }
       where
-        grows : arrivals_given line gives.all (given ++ gives.frame ∷ [])
-            ≡ arrivals_given line bytes given ++ arrival_of_window window ∷ []
-        grows = arrivals_given-push line gives.all given gives.frame
-            ∙ ap (λ (l : List Arrival). l ++ arrival_in line (symbols_of gives.all) gives.frame ∷ []) gives.same
-            ∙ ap (λ (a : Arrival). arrivals_given line bytes given ++ a ∷ [])
+        grows : arrivals_given decoding gives.all (given ++ gives.frame ∷ [])
+            ≡ arrivals_given decoding bytes given ++ arrival_of_window window ∷ []
+        grows = arrivals_given-push decoding gives.all given gives.frame
+            ∙ ap (λ (l : List Arrival). l ++ arrival_in decoding (symbols_of gives.all) gives.frame ∷ []) gives.same
+            ∙ ap (λ (a : Arrival). arrivals_given decoding bytes given ++ a ∷ [])
             (sym (ap arrival_of_window gives.window_is))
 
     -- no window is given, and one is spare
     module _ (most : intake'.feed.most ≡ old.state.feed.most) (frames : intake'.frames ≡ old.state.frames)
-        (lines : AreOfLine line intake'.spare.items) (left : 0 < vec_len intake'.spare) where
+        (lines : AreDecoded decoding intake'.spare.items) (left : 0 < vec_len intake'.spare) where
       gives_none : (on : FeedsOn symbols IsUnderWay (at_source so_far.taken old.source) (at_source intake'.feed s'))
-          → ((stop : Stop) → intake'.ended ≡ Some stop → IsOver line on.all given intake'.feed stop)
+          → ((stop : Stop) → intake'.ended ≡ Some stop → IsOver decoding on.all given intake'.feed stop)
           → (intake'.ended ≡ None → length intake'.feed.lock.kept ≤ most_kept)
           → GivesMore (stream_of symbols limit) so_far old (at_source intake' s')
       gives_none on over short = record {
@@ -117,7 +117,7 @@ module _ {S : Type 0} (symbols : SymbolSource S) (limit : ℕ) {so_far : Progres
         };
         looks = looked on.all on.looks;
         rest = [];
-        grown = on.same ∙ sym (append-nil (arrivals_given line bytes given));
+        grown = on.same ∙ sym (append-nil (arrivals_given decoding bytes given));
         close = λ first within under close. stays_close IsUnderWay first given bytes on.all
             (λ some. says (under some)) on.near close;
       }

@@ -6,10 +6,10 @@ use lib.ListN.{get_elem?}
 use Rattle.std.specs.List.{All}
 use Rattle.std.proofs.lemmas.List.{length-map}
 use Rattle.std.proofs.lemmas.List.Elements.{All-head, All-tail, All-push}
-use Rattle.lr_conv.specs.declared.line.LineCode.{LineCode}
+use Rattle.lr_forms.specs.declared.forms.Decoding.{Decoding}
 use Rattle.lr_lock.specs.Windows.{WindowView}
 use Rattle.lr_gate.proofs.Seats.{All-last, All-front}
-use Rattle.lr_reading.specs.WindowSources.{arrival_of_window, AreOfLine, HasWindowJobs}
+use Rattle.lr_reading.specs.WindowSources.{IsFor, arrival_of_window, AreDecoded, HasWindowJobs}
 use Rattle.lr_reading.specs.declared.arrival.Arrival.{Arrival}
 use Rattle.lr_reading.specs.declared.intake.Intake.{Intake}
 
@@ -25,16 +25,16 @@ take_more f [] n x e = absurd (some-ne-none x (sym e))
 take_more {X} {Y} f (y ∷ ys) zero x e = ap (λ (z : X). f z ∷ []) (some-injective y x e)
 take_more {X} {Y} f (y ∷ ys) (suc n) x e = ap (λ (l : List Y). f y ∷ l) (take_more f ys n x e)
 
-module _ {line : LineCode} {arrivals : List Arrival} {windows : List WindowView} {kept : ℕ} {intake : Intake}
-    (jobs : HasWindowJobs line arrivals windows kept intake) where
+module _ {decoding : Decoding} {arrivals : List Arrival} {windows : List WindowView} {kept : ℕ} {intake : Intake}
+    (jobs : HasWindowJobs decoding arrivals windows kept intake) where
   -- there is an arrival for each window
   pub as_many : length arrivals ≡ length windows
   as_many = ap (λ (l : List Arrival). length l) (sym jobs.jobs) ∙ length-map windows arrival_of_window
 
   module _ (j : WindowView) (at : get_elem? windows kept ≡ some j) where
-    -- the oldest window is of the line code
-    pub oldest_line : j.line ≡ line
-    oldest_line = at_all (λ (w : WindowView). w.line ≡ line) windows kept j jobs.job_lines at
+    -- the oldest window is decoded so
+    pub oldest_decoded : IsFor decoding j
+    oldest_decoded = at_all (IsFor decoding) windows kept j jobs.job_lines at
 
     -- what becomes of it is the next arrival
     pub handed_more : take (kept + 1) arrivals ≡ take kept arrivals ++ arrival_of_window j ∷ []
@@ -51,15 +51,19 @@ pub some_spare : (front items : List WindowView) (window : WindowView) → items
 some_spare front items window is =
     omega (arith, ap (λ (l : List WindowView). length l) is, length-append front (window ∷ []))
 
-module _ {line : LineCode} (items front : List WindowView) (window : WindowView)
-    (is : items ≡ front ++ window ∷ []) (lines : AreOfLine line items) where
+module _ {decoding : Decoding} (items front : List WindowView) (window : WindowView)
+    (is : items ≡ front ++ window ∷ []) (lines : AreDecoded decoding items) where
   -- those that are left
-  pub spare_left : AreOfLine line front
-  spare_left = All-front (λ (w : WindowView). w.line ≡ line) front items window is lines
+  pub spare_left : AreDecoded decoding front
+  spare_left = All-front (IsFor decoding) front items window is lines
+
+  -- the last one
+  pub spare_last : IsFor decoding window
+  spare_last = All-last (IsFor decoding) front items window is lines
 
   -- and one that comes back
   pub spare_again : (items' : List WindowView) (window' : WindowView) → items' ≡ front ++ window' ∷ []
-      → window'.line ≡ window.line → AreOfLine line items'
-  spare_again items' window' is' same = subst (AreOfLine line) (sym is')
-      (All-push (λ (w : WindowView). w.line ≡ line) front window' spare_left
-      (same ∙ All-last (λ (w : WindowView). w.line ≡ line) front items window is lines))
+      → window'.line ≡ window.line → window'.passes ≡ window.passes → AreDecoded decoding items'
+  spare_again items' window' is' line passes = subst (AreDecoded decoding) (sym is')
+      (All-push (IsFor decoding) front window' spare_left
+      (line ∙ spare_last.0, passes ∙ spare_last.1))

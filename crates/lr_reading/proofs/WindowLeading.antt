@@ -7,8 +7,8 @@ use Rattle.std.specs.Prelude.{All}
 use Rattle.std.proofs.lemmas.Bool.{cases_lt}
 use Rattle.std.proofs.lemmas.List.{take-append-le, take-append-drop, length-take}
 use Rattle.std.proofs.lemmas.List.Elements.{All-push}
+use Rattle.lr_forms.specs.declared.forms.Decoding.{Decoding}
 use Rattle.lr_conv.specs.Marker.{tail_of}
-use Rattle.lr_conv.specs.declared.line.LineCode.{LineCode}
 use Rattle.lr_io.specs.declared.source.Source.{Ghosts as SourceOf}
 use Rattle.lr_lock.specs.Frames.{place_after_frame}
 use Rattle.lr_lock.specs.FramesOf.{frames_of}
@@ -34,8 +34,9 @@ use Rattle.lr_reading.specs.Feeding.{symbols_from, taken_since, arrivals_given, 
 use Rattle.lr_reading.specs.Feeding.{FeedState, FedSoFar}
 use Rattle.lr_reading.specs.Reading.{WhenLastAsked, at_source}
 use Rattle.lr_reading.specs.Runs.{ComeInTime, TakesSome, lent}
-use Rattle.lr_reading.specs.WindowSources.{HasWindows, first_arrivals, GivesMore, HasNextJob, stream_of}
-use Rattle.lr_reading.specs.WindowSources.{LeavesFewer, StandsAt, progress, arrival_of_window, AreOfLine, IsOver}
+use Rattle.lr_reading.specs.WindowSources.{decoding_of, IsFor, HasWindows}
+use Rattle.lr_reading.specs.WindowSources.{first_arrivals, GivesMore, HasNextJob, stream_of}
+use Rattle.lr_reading.specs.WindowSources.{LeavesFewer, StandsAt, progress, arrival_of_window, AreDecoded, IsOver}
 use Rattle.lr_reading.specs.WindowSources.{leeway_in, left_to_feed, course_from, lent_in, MayHandOver, StopsAt, ComesTo}
 use Rattle.lr_reading.specs.WindowSources.{WindowStream, window_terms}
 use Rattle.lr_reading.specs.declared.arrival.Arrival.{Arrival}
@@ -45,7 +46,7 @@ use Rattle.lr_reading.specs.declared.arrival.Position.{Position}
 use Rattle.lr_reading.specs.declared.read_counts.ReadCounts.{ReadCounts}
 use Rattle.lr_reading.proofs.Asking.{last_too}
 use Rattle.lr_reading.proofs.Coming.{frames_counted, outcomes_counted}
-use Rattle.lr_reading.proofs.WindowJobs.{as_many, oldest_line, handed_more}
+use Rattle.lr_reading.proofs.WindowJobs.{as_many, oldest_decoded, handed_more}
 use Rattle.lr_reading.proofs.WindowLed.{few_windows, frames_given, in_time_on, led_some, led_all}
 use Rattle.lr_reading.proofs.Close.{close_later}
 use Rattle.lr_reading.proofs.Refusing.{stops_at_once}
@@ -65,17 +66,17 @@ arrival_is j position done is place positive =
     is
 
 -- there is no noise after a frame
-no_noise : (line : LineCode) (given : List Frame) (bytes : List ℕ) → EndsInFrame line given bytes
-    → HaveCome (Symbols line) WINDOW_END bytes (length (arrivals_of (Symbols line) bytes)) → ⊥
-no_noise line given bytes ends noise =
+no_noise : (decoding : Decoding) (given : List Frame) (bytes : List ℕ) → EndsInFrame decoding given bytes
+    → HaveCome (Symbols decoding) WINDOW_END bytes (length (arrivals_of (Symbols decoding) bytes)) → ⊥
+no_noise decoding given bytes ends noise =
     let Ends : Frame → Type 0 = λ frame. place_after_frame frame + WINDOW_END ≤ length bytes in
-    let all : frames_of (tail_of line) (symbols_of bytes) ≡ ends.before ++ (ends.frame ∷ ends.others) =
+    let all : frames_of (tail_of decoding.line) (symbols_of bytes) ≡ ends.before ++ (ends.frame ∷ ends.others) =
     ends.come ∙ ap (λ (l : List Frame). l ++ ends.others) ends.last
     ∙ append_assoc ends.before (ends.frame ∷ []) ends.others in
-    let count : ℕ = length (arrivals_of (Symbols line) bytes) in
+    let count : ℕ = length (arrivals_of (Symbols decoding) bytes) in
     let this : Ends ends.frame = at_next Ends ends.before ends.others ends.frame count (omega (
       arith,
-      frames_counted line bytes,
+      frames_counted decoding bytes,
       ap (λ (l : List Frame). length l) all,
       length-append ends.before (ends.frame ∷ ends.others),
     )) (subst (λ (l : List Frame). All Ends (take count l)) all noise.1) in
@@ -86,14 +87,14 @@ no_noise line given bytes ends noise =
 module _ {S C Cause : Type 0} (source : SourceOf S) (consumer : ConsumerOf C Cause)
     {start before : WindowSource S C} {windows : List WindowView} {kept : ℕ}
     (at : StandsAt source consumer (led start windows kept) before) where
-  abbrev line : LineCode
-  line = start.intake.now.feed.lock.line
+  abbrev decoding : Decoding
+  decoding = decoding_of start.intake.now
 
   abbrev stream : WindowStream S
-  stream = stream_of (symbols_from source line) start.intake.now.feed.most
+  stream = stream_of (symbols_from source decoding) start.intake.now.feed.most
 
   abbrev first : List Arrival
-  first = first_arrivals line at.bytes at.given kept
+  first = first_arrivals decoding at.bytes at.given kept
 
   -- ---- it gives a window, or none
 
@@ -123,13 +124,13 @@ module _ {S C Cause : Type 0} (source : SourceOf S) (consumer : ConsumerOf C Cau
       close = more.close kept (omega (arith, at.behind, frames_given source consumer at))
           (λ under_way. omega (arith, under_way, at.has_windows.all, frames_given source consumer at)) at.close;
       in_time = in_time;
-      taken = λ c none. subst (consumer.took c (first_arrivals line more.all more.every kept)) (sym consumer_is)
+      taken = λ c none. subst (consumer.took c (first_arrivals decoding more.all more.every kept)) (sym consumer_is)
           (subst (λ (l : List Arrival). consumer.took c l before.consumer.now) (sym same) (at.taken c none));
     }
       where
-        same : first_arrivals line more.all more.every kept ≡ first
+        same : first_arrivals decoding more.all more.every kept ≡ first
         same = ap (take kept) more.grown
-            ∙ take-append-le kept (arrivals_given line at.bytes at.given) more.rest
+            ∙ take-append-le kept (arrivals_given decoding at.bytes at.given) more.rest
             (omega (arith, at.behind, as_many at.is_given.jobs))
 
         -- of what had come as it was asked now all but a few were kept
@@ -148,8 +149,8 @@ module _ {S C Cause : Type 0} (source : SourceOf S) (consumer : ConsumerOf C Cau
 
         -- and else of all but as many as may wait, since one window is spare
         few_wait : 0 < vec_len before.intake.now.spare → (given : List ℕ) (pieces : List (List ℕ)) (count few : ℕ)
-            → (IsUnderWay → EndsInFrame line at.given given × (EndShort pieces → ⊥))
-            → MayWait (Symbols line) (leeway_in start.intake.now) given pieces few → count + few ≤ length windows
+            → (IsUnderWay → EndsInFrame decoding at.given given × (EndShort pieces → ⊥))
+            → MayWait (Symbols decoding) (leeway_in start.intake.now) given pieces few → count + few ≤ length windows
             → count ≤ kept
         few_wait spare given pieces count few calm wait within = ⊎_elim
             (λ (many : vec_capacity start.intake.now.spare - 1 ≤ few). omega (
@@ -165,9 +166,11 @@ module _ {S C Cause : Type 0} (source : SourceOf S) (consumer : ConsumerOf C Cau
               arith,
               within,
             )))
-            (λ (noise : HaveCome (Symbols line) WINDOW_END given (length (outcomes_of_bytes (Symbols line) given))).
-            all_kept (λ under_way. no_noise line at.given given (calm under_way).0
-            (subst (λ (n : ℕ). HaveCome (Symbols line) WINDOW_END given n) (outcomes_counted (Symbols line) given)
+            (λ (noise : HaveCome (Symbols decoding) WINDOW_END given
+            (length (outcomes_of_bytes (Symbols decoding) given))).
+            all_kept (λ under_way. no_noise decoding at.given given (calm under_way).0
+            (subst (λ (n : ℕ). HaveCome (Symbols decoding) WINDOW_END given n)
+            (outcomes_counted (Symbols decoding) given)
             noise)) count (omega (
               arith,
               within,
@@ -175,10 +178,10 @@ module _ {S C Cause : Type 0} (source : SourceOf S) (consumer : ConsumerOf C Cau
             wait
 
         due : 0 < vec_len before.intake.now.spare → (given : List ℕ) (pieces : List (List ℕ))
-            → MayAsk line IsUnderWay at.bytes at.given given pieces
-            → ComeInTime (Symbols line) (leeway_in start.intake.now) 0 first given pieces
+            → MayAsk decoding IsUnderWay at.bytes at.given given pieces
+            → ComeInTime (Symbols decoding) (leeway_in start.intake.now) 0 first given pieces
         due spare given pieces asks count few wait come =
-            let arrivals : List Arrival = arrivals_given line at.bytes at.given in
+            let arrivals : List Arrival = arrivals_given decoding at.bytes at.given in
             let le : count ≤ length first = omega (
               arith,
               few_wait spare given pieces count few asks.1 wait (omega (
@@ -190,7 +193,7 @@ module _ {S C Cause : Type 0} (source : SourceOf S) (consumer : ConsumerOf C Cau
               as_many at.is_given.jobs,
               at.behind,
             ) in
-            let these : take count (arrivals_of (Symbols line) given) ≡ take count first =
+            let these : take count (arrivals_of (Symbols decoding) given) ≡ take count first =
             ap (take count) (asks.0.split
             ∙ ap (λ (l : List Arrival). l ++ asks.0.rest) (sym (take-append-drop kept arrivals))
             ∙ append_assoc first (drop kept arrivals) asks.0.rest)
@@ -200,15 +203,15 @@ module _ {S C Cause : Type 0} (source : SourceOf S) (consumer : ConsumerOf C Cau
               omega arith,
             )
 
-        in_time : WhenLastAsked source (ComeInTime (Symbols line) (leeway_in start.intake.now) 0
-            (first_arrivals line more.all more.every kept)) more.all start.source.now now.source.now
-        in_time = subst (λ (l : List Arrival). WhenLastAsked source (ComeInTime (Symbols line)
+        in_time : WhenLastAsked source (ComeInTime (Symbols decoding) (leeway_in start.intake.now) 0
+            (first_arrivals decoding more.all more.every kept)) more.all start.source.now now.source.now
+        in_time = subst (λ (l : List Arrival). WhenLastAsked source (ComeInTime (Symbols decoding)
             (leeway_in start.intake.now) 0 l) more.all start.source.now now.source.now) (sym same)
-            (⊎_elim (λ none. subst (λ (l : List ℕ). WhenLastAsked source (ComeInTime (Symbols line)
+            (⊎_elim (λ none. subst (λ (l : List ℕ). WhenLastAsked source (ComeInTime (Symbols decoding)
             (leeway_in start.intake.now) 0 first) l start.source.now now.source.now) (sym none.0)
-            (subst (λ (s : S). WhenLastAsked source (ComeInTime (Symbols line)
+            (subst (λ (s : S). WhenLastAsked source (ComeInTime (Symbols decoding)
             (leeway_in start.intake.now) 0 first) at.bytes start.source.now s) (sym none.1) at.in_time))
-            (λ last. inr (last_too source (ComeInTime (Symbols line) (leeway_in start.intake.now) 0 first)
+            (λ last. inr (last_too source (ComeInTime (Symbols decoding) (leeway_in start.intake.now) 0 first)
             (due last.0) last.1)) more.looks)
 
     pub gives : (offer : NextJob WindowView)
@@ -265,7 +268,7 @@ module _ {S C Cause : Type 0} (source : SourceOf S) (consumer : ConsumerOf C Cau
       taken = at.taken at.ready.0 at.ready.1;
       few = omega (
         arith,
-        length-take kept (arrivals_given line at.bytes at.given),
+        length-take kept (arrivals_given decoding at.bytes at.given),
         below,
         few_windows source consumer at,
         at.few,
@@ -278,7 +281,7 @@ module _ {S C Cause : Type 0} (source : SourceOf S) (consumer : ConsumerOf C Cau
     pub few_frames : before.intake.now.frames < 2 ^ 60
     few_frames = omega (arith, at.is_given.jobs.count, below, few_windows source consumer at, at.small)
 
-    handed : first_arrivals line at.bytes at.given (kept + 1) ≡ first ++ arrival_of_window done.window ∷ []
+    handed : first_arrivals decoding at.bytes at.given (kept + 1) ≡ first ++ arrival_of_window done.window ∷ []
     handed = handed_more at.is_given.jobs next.0 next.1
         ∙ ap (λ (d : FrameDone). first ++ arrival_of_window d.window ∷ []) (sym next.2)
 
@@ -325,13 +328,13 @@ module _ {S C Cause : Type 0} (source : SourceOf S) (consumer : ConsumerOf C Cau
             jobs = record {
               jobs = at.is_given.jobs.jobs;
               job_lines = at.is_given.jobs.job_lines;
-              spare_lines = subst (AreOfLine line) (sym spare) (All-push (λ (w : WindowView). w.line ≡ line)
+              spare_lines = subst (AreDecoded decoding) (sym spare) (All-push (IsFor decoding)
                   before.intake.now.spare.items done.window at.is_given.jobs.spare_lines
-                  (ap (λ (d : FrameDone). d.window.line) next.2
-                  ∙ oldest_line at.is_given.jobs next.0 next.1));
+                  (subst (λ (d : FrameDone). IsFor decoding d.window) (sym next.2)
+                  (oldest_decoded at.is_given.jobs next.0 next.1)));
               count = frames ∙ ap (λ (n : ℕ). n + 1) at.is_given.jobs.count;
             };
-            over = λ stop e. subst (λ (f : FeedState). IsOver line at.bytes at.given f stop) (sym feed)
+            over = λ stop e. subst (λ (f : FeedState). IsOver decoding at.bytes at.given f stop) (sym feed)
                 (at.is_given.over stop (sym ended ∙ e));
             short = λ e. omega (
               arith,
@@ -346,8 +349,8 @@ module _ {S C Cause : Type 0} (source : SourceOf S) (consumer : ConsumerOf C Cau
             ));
           };
           close = close_later kept at.given (length at.bytes) at.close;
-          in_time = subst (λ (s : S). WhenLastAsked source (ComeInTime (Symbols line)
-              (leeway_in start.intake.now) 0 (first_arrivals line at.bytes at.given (kept + 1))) at.bytes
+          in_time = subst (λ (s : S). WhenLastAsked source (ComeInTime (Symbols decoding)
+              (leeway_in start.intake.now) 0 (first_arrivals decoding at.bytes at.given (kept + 1))) at.bytes
               start.source.now s) (sym source_is) (in_time_on source consumer at (kept + 1) 0 (omega arith)
               (omega (arith, below)));
           taken = λ c none. subst (λ (l : List Arrival). consumer.took c l now.consumer.now) (sym handed)

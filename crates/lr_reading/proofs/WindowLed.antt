@@ -11,6 +11,7 @@ use Rattle.lr_bits.specs.declared.sizes.TheConstants.{FRAME_SYMBOLS}
 use Rattle.lr_conv.proofs.Tails.{tail_size}
 use Rattle.lr_conv.specs.Marker.{tail_of}
 use Rattle.lr_conv.specs.declared.line.LineCode.{LineCode}
+use Rattle.lr_forms.specs.declared.forms.Decoding.{Decoding}
 use Rattle.lr_io.specs.declared.source.Source.{Ghosts as SourceOf}
 use Rattle.lr_lock.specs.Frames.{AreNext, place_after_frame}
 use Rattle.lr_lock.proofs.Existing.{given_are_prefix}
@@ -26,7 +27,8 @@ use Rattle.lr_reading.specs.Arrivals.{arrivals_of}
 use Rattle.lr_reading.specs.Feeding.{symbols_from, arrivals_given}
 use Rattle.lr_reading.specs.Reading.{EndsFor, WhenLastAsked}
 use Rattle.lr_reading.specs.Runs.{ComeInTime, TakesAll, TakesSome, lent}
-use Rattle.lr_reading.specs.WindowSources.{IsOver, first_arrivals, course_from, leeway_in, lent_in, StandsAt}
+use Rattle.lr_reading.specs.WindowSources.{decoding_of, IsOver, first_arrivals}
+use Rattle.lr_reading.specs.WindowSources.{course_from, leeway_in, lent_in, StandsAt}
 use Rattle.lr_reading.specs.declared.arrival.Arrival.{Arrival}
 use Rattle.lr_reading.specs.declared.consumer.Consumer.{Ghosts as ConsumerOf}
 use Rattle.lr_reading.specs.declared.read_counts.ReadCounts.{ReadCounts}
@@ -49,23 +51,23 @@ nothing_left source Fault limit bytes s s' why told few calm = absurd (calm why.
 module _ {S C Cause : Type 0} (source : SourceOf S) (consumer : ConsumerOf C Cause)
     {start before : WindowSource S C} {windows : List WindowView} {kept : ℕ}
     (at : StandsAt source consumer (led start windows kept) before) where
-  abbrev line : LineCode
-  line = start.intake.now.feed.lock.line
+  abbrev decoding : Decoding
+  decoding = decoding_of start.intake.now
 
   abbrev limit : ℕ
   limit = start.intake.now.feed.most
 
   abbrev first : List Arrival
-  first = first_arrivals line at.bytes at.given kept
+  first = first_arrivals decoding at.bytes at.given kept
 
   -- as many frames were given as windows
   pub frames_given : length windows ≡ length at.given
-  frames_given = given_is (symbols_from source line) limit at.is_given
+  frames_given = given_is (symbols_from source decoding) limit at.is_given
 
   pub few_windows : FRAME_SYMBOLS * length windows ≤ limit
-  few_windows = few_given (symbols_from source line) limit at.is_given
+  few_windows = few_given (symbols_from source decoding) limit at.is_given
 
-  given_next : AreNext (tail_of line) (symbols_of at.bytes) None at.given
+  given_next : AreNext (tail_of decoding.line) (symbols_of at.bytes) None at.given
   given_next = subst (λ (l : LineCode). AreNext (tail_of l) (symbols_of at.bytes) None at.given)
       at.is_given.feeds.line_is at.is_given.feeds.stands.frames
 
@@ -81,25 +83,25 @@ module _ {S C Cause : Type 0} (source : SourceOf S) (consumer : ConsumerOf C Cau
   first_of : source.tells start.source.now → length at.bytes < limit
       → (Rose (source.faults start.source.now) (source.faults before.source.now) → ⊥)
       → (b : Bool) → before.intake.now.feed.lock.finished ≡ b → (later : List Arrival)
-      × (arrivals_of (Symbols line) (at.bytes ++ source.left before.source.now)
-      ≡ arrivals_given line at.bytes at.given ++ later)
+      × (arrivals_of (Symbols decoding) (at.bytes ++ source.left before.source.now)
+      ≡ arrivals_given decoding at.bytes at.given ++ later)
   first_of told few calm true finished =
       let none = nothing_left source before.intake.now.feed.stop limit at.bytes start.source.now before.source.now
       (ends_for finished) told few calm in
-      let first = arrivals_first line at.bytes at.given given_next in (
+      let first = arrivals_first decoding at.bytes at.given given_next in (
         first.0,
-        ap (arrivals_of (Symbols line)) (ap (λ (l : List ℕ). at.bytes ++ l) none ∙ append-nil at.bytes) ∙ first.1,
+        ap (arrivals_of (Symbols decoding)) (ap (λ (l : List ℕ). at.bytes ++ l) none ∙ append-nil at.bytes) ∙ first.1,
       )
   first_of told few calm false unfinished =
-      arrivals_go_on line at.bytes (source.left before.source.now) at.given given_next
+      arrivals_go_on decoding at.bytes (source.left before.source.now) at.given given_next
       (at.is_given.feeds.stands.sure unfinished)
 
   -- the first arrivals are the first of whatever begins with all
   cut : (n : ℕ) (whole : List Arrival) (first : (later : List Arrival)
-      × (whole ≡ arrivals_given line at.bytes at.given ++ later))
-      → (later : List Arrival) × (whole ≡ take n (arrivals_given line at.bytes at.given) ++ later)
+      × (whole ≡ arrivals_given decoding at.bytes at.given ++ later))
+      → (later : List Arrival) × (whole ≡ take n (arrivals_given decoding at.bytes at.given) ++ later)
   cut n whole first =
-      let arrivals = arrivals_given line at.bytes at.given in (
+      let arrivals = arrivals_given decoding at.bytes at.given in (
         drop n arrivals ++ first.0,
         first.1 ∙ ap (λ (l : List Arrival). l ++ first.0) (sym (take-append-drop n arrivals))
             ∙ append_assoc (take n arrivals) (drop n arrivals) first.0,
@@ -107,30 +109,32 @@ module _ {S C Cause : Type 0} (source : SourceOf S) (consumer : ConsumerOf C Cau
 
   -- after what comes of the frames given at most three more come of the bytes taken
   few_more : (ended : Option Stop) → before.intake.now.ended ≡ ended → (rest : List Arrival)
-      × (arrivals_of (Symbols line) at.bytes ≡ arrivals_given line at.bytes at.given ++ rest) × (length rest ≤ 3)
+      × (arrivals_of (Symbols decoding) at.bytes ≡ arrivals_given decoding at.bytes at.given ++ rest)
+      × (length rest ≤ 3)
   few_more None going =
-      let more = arrivals_few line at.bytes at.given before.intake.now.feed.lock at.is_given.feeds.stands
+      let more = arrivals_few decoding at.bytes at.given before.intake.now.feed.lock at.is_given.feeds.stands
       at.is_given.feeds.line_is in
       (more.0, more.1, omega (arith, more.2, at.is_given.short going))
   few_more (Some stop) ended = (
     [],
-    arrivals_all line at.bytes at.given (at.is_given.over stop ended).every
-        ∙ sym (append-nil (arrivals_given line at.bytes at.given)),
+    arrivals_all decoding at.bytes at.given (at.is_given.over stop ended).every
+        ∙ sym (append-nil (arrivals_given decoding at.bytes at.given)),
     omega arith,
   )
 
   -- what was first among the arrivals that were kept is so among more of them
   longer : (n after : ℕ) → kept + after ≤ n → n ≤ length windows → (given : List ℕ) (pieces : List (List ℕ))
-      → ComeInTime (Symbols line) (leeway_in start.intake.now) 0 first given pieces
-      → ComeInTime (Symbols line) (leeway_in start.intake.now) after (first_arrivals line at.bytes at.given n) given
+      → ComeInTime (Symbols decoding) (leeway_in start.intake.now) 0 first given pieces
+      → ComeInTime (Symbols decoding) (leeway_in start.intake.now) after (first_arrivals decoding at.bytes at.given n)
+      given
       pieces
   longer n after past enough given pieces due count few wait come =
-      let arrivals : List Arrival = arrivals_given line at.bytes at.given in
+      let arrivals : List Arrival = arrivals_given decoding at.bytes at.given in
       let others : List Arrival = take (n - kept) (drop kept arrivals) in
       let then = due count few wait come in (
         then.0 ++ others,
         take_on arrivals kept n (omega (arith, past)) ∙ ap (λ (l : List Arrival). l ++ others) then.1
-            ∙ append_assoc (take count (arrivals_of (Symbols line) given)) then.0 others,
+            ∙ append_assoc (take count (arrivals_of (Symbols decoding) given)) then.0 others,
         omega (
           arith,
           length-append then.0 others,
@@ -143,26 +147,27 @@ module _ {S C Cause : Type 0} (source : SourceOf S) (consumer : ConsumerOf C Cau
       )
 
   pub in_time_on : (n after : ℕ) → kept + after ≤ n → n ≤ length windows
-      → WhenLastAsked source (ComeInTime (Symbols line) (leeway_in start.intake.now) after
-      (first_arrivals line at.bytes at.given n)) at.bytes start.source.now before.source.now
+      → WhenLastAsked source (ComeInTime (Symbols decoding) (leeway_in start.intake.now) after
+      (first_arrivals decoding at.bytes at.given n)) at.bytes start.source.now before.source.now
   in_time_on n after past enough = when_too source
-      (ComeInTime (Symbols line) (leeway_in start.intake.now) 0 first)
-      (ComeInTime (Symbols line) (leeway_in start.intake.now) after
-      (first_arrivals line at.bytes at.given n)) at.bytes start.source.now before.source.now
+      (ComeInTime (Symbols decoding) (leeway_in start.intake.now) 0 first)
+      (ComeInTime (Symbols decoding) (leeway_in start.intake.now) after
+      (first_arrivals decoding at.bytes at.given n)) at.bytes start.source.now before.source.now
       (longer n after past enough) at.in_time
 
   -- the consumer stopped at the last one of these arrivals
   pub led_some : (n : ℕ) → kept < n → n ≤ length windows → (cause : Cause) (now : C)
       → ((c : C) → consumer.took c [] start.consumer.now
-      → consumer.stopped c (first_arrivals line at.bytes at.given n) cause now)
+      → consumer.stopped c (first_arrivals decoding at.bytes at.given n) cause now)
       → TakesSome (course_from source consumer.took start) consumer.stopped cause (lent_in start)
       (lent before.source.now now)
   unfolding cut
   led_some n past enough cause now stops =
-      let arrivals = arrivals_given line at.bytes at.given in
+      let arrivals = arrivals_given decoding at.bytes at.given in
       let more = few_more before.intake.now.ended refl in
-      let split = cut n (arrivals_of (Symbols line) at.bytes) (more.0, more.1) in
-      let frames = given_are_prefix (tail_of line) (symbols_of at.bytes) at.given (tail_size line) given_next in
+      let split = cut n (arrivals_of (Symbols decoding) at.bytes) (more.0, more.1) in
+      let frames = given_are_prefix (tail_of decoding.line) (symbols_of at.bytes) at.given (tail_size decoding.line)
+      given_next in
       record {
         bytes = at.bytes;
         read = record {
@@ -171,7 +176,7 @@ module _ {S C Cause : Type 0} (source : SourceOf S) (consumer : ConsumerOf C Cau
           few = few_bytes;
           asked = at.is_given.feeds.asked;
         };
-        passed = first_arrivals line at.bytes at.given n;
+        passed = first_arrivals decoding at.bytes at.given n;
         rest = drop n arrivals ++ more.0;
         split = split.1;
         near = omega (
@@ -205,7 +210,7 @@ module _ {S C Cause : Type 0} (source : SourceOf S) (consumer : ConsumerOf C Cau
         in_time = in_time_on n 1 (omega (arith, past)) enough;
         stops = stops;
         begins = λ other symbols told few calm.
-            cut n (arrivals_of (Symbols line) (at.bytes ++ source.left before.source.now))
+            cut n (arrivals_of (Symbols decoding) (at.bytes ++ source.left before.source.now))
             (first_of told few calm before.intake.now.feed.lock.finished refl);
       }
 
@@ -230,19 +235,19 @@ module _ {S C Cause : Type 0} (source : SourceOf S) (consumer : ConsumerOf C Cau
           ∙ ap (λ (l : List Arrival). length l) (sym come);
       left = left;
     };
-    in_time = subst (λ (l : List Arrival). WhenLastAsked source (ComeInTime (Symbols line)
+    in_time = subst (λ (l : List Arrival). WhenLastAsked source (ComeInTime (Symbols decoding)
         (leeway_in start.intake.now) 0 l) at.bytes start.source.now before.source.now) (whole ∙ sym come)
         at.in_time;
     taken = λ c none. subst (λ (l : List Arrival). consumer.took c l before.consumer.now) (whole ∙ sym come)
         (at.taken c none);
   }
     where
-      over : IsOver line at.bytes at.given before.intake.now.feed totals.stop
+      over : IsOver decoding at.bytes at.given before.intake.now.feed totals.stop
       over = at.is_given.over totals.stop ended
 
-      come : arrivals_of (Symbols line) at.bytes ≡ arrivals_given line at.bytes at.given
-      come = arrivals_all line at.bytes at.given over.every
+      come : arrivals_of (Symbols decoding) at.bytes ≡ arrivals_given decoding at.bytes at.given
+      come = arrivals_all decoding at.bytes at.given over.every
 
-      whole : first_arrivals line at.bytes at.given kept ≡ arrivals_given line at.bytes at.given
-      whole = ap (λ (k : ℕ). take k (arrivals_given line at.bytes at.given)) (all ∙ sym (as_many at.is_given.jobs))
-          ∙ take-length (arrivals_given line at.bytes at.given)
+      whole : first_arrivals decoding at.bytes at.given kept ≡ arrivals_given decoding at.bytes at.given
+      whole = ap (λ (k : ℕ). take k (arrivals_given decoding at.bytes at.given)) (all ∙ sym (as_many at.is_given.jobs))
+          ∙ take-length (arrivals_given decoding at.bytes at.given)

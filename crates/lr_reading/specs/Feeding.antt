@@ -1,10 +1,10 @@
 -- How the lock is fed with the symbols of the input. No clause of a public call cites this.
 use Rattle.std.specs.Prelude.{◌≡◌, ◌⊎◌, ◌<◌, ◌≤◌, ◌+◌, ◌-◌, ◌*◌, ℕ, ℤ, Bool, true, false, Option, Some}
 use Rattle.std.specs.Prelude.{None, List, [], ◌∷◌, ◌++◌, length, map, cond}
+use Rattle.lr_forms.specs.declared.forms.Decoding.{Decoding}
 use Rattle.lr_bits.specs.Faults.{Rose}
 use Rattle.lr_bits.specs.declared.sizes.TheConstants.{FRAME_SYMBOLS}
 use Rattle.lr_bits.specs.Telling.{KeepsTelling}
-use Rattle.lr_conv.specs.declared.line.LineCode.{LineCode}
 use Rattle.lr_conv.specs.Marker.{tail_of}
 use Rattle.lr_io.specs.declared.source.Source.{Ghosts as SourceOf}
 use Rattle.lr_lock.specs.declared.frame.Frame.{Frame}
@@ -59,24 +59,25 @@ pub record IsFreshFeed (most : ℕ) (now : FeedState) : Type 0 where
   pub short : now.short ≡ true
 
 -- what comes of these frames of the bytes
-unfoldable pub arrivals_given : LineCode → List ℕ → List Frame → List Arrival
-arrivals_given line bytes given = map (arrival_in line (symbols_of bytes)) given
+unfoldable pub arrivals_given : Decoding → List ℕ → List Frame → List Arrival
+arrivals_given decoding bytes given = map (arrival_in decoding (symbols_of bytes)) given
 
 -- what comes of these bytes begins with these arrivals, and each whose window has come is among them
-pub record HaveGivenAll (line : LineCode) (first : List Arrival) (bytes : List ℕ) : Type 0 where
+pub record HaveGivenAll (decoding : Decoding) (first : List Arrival) (bytes : List ℕ) : Type 0 where
   pub rest : List Arrival
-  pub split : arrivals_of (Symbols line) bytes ≡ first ++ rest
-  pub all : (count : ℕ) → HaveCome (Symbols line) (WINDOW_END - FRAME_SYMBOLS) bytes count → count ≤ length first
+  pub split : arrivals_of (Symbols decoding) bytes ≡ first ++ rest
+  pub all : (count : ℕ) → HaveCome (Symbols decoding) (WINDOW_END - FRAME_SYMBOLS) bytes count
+      → count ≤ length first
 
 -- the last one of these frames ends less than a marker and a window before the end of these bytes, of which all the
 -- frames come
-pub record EndsInFrame (line : LineCode) (given : List Frame) (bytes : List ℕ) : Type 0 where
+pub record EndsInFrame (decoding : Decoding) (given : List Frame) (bytes : List ℕ) : Type 0 where
   pub before : List Frame
   pub frame : Frame
   pub last : given ≡ before ++ frame ∷ []
   pub near : length bytes < place_after_frame frame + WINDOW_END
   pub others : List Frame
-  pub come : frames_of (tail_of line) (symbols_of bytes) ≡ given ++ others
+  pub come : frames_of (tail_of decoding.line) (symbols_of bytes) ≡ given ++ others
 
 -- the last one of these frames ended this many symbols before the end of these bytes, at most
 pub record EndsWithin (most : ℕ) (given : List Frame) (bytes : List ℕ) : Type 0 where
@@ -91,17 +92,17 @@ StaysNear bytes given all = (all ≡ bytes) ⊎ EndsWithin lock_symbols given al
 
 -- The source may be asked after some bytes, which came in these pieces: each frame whose window has come is given; and
 -- where windows are under way the lock doesn't search, and the last piece wasn't short
-abbrev pub MayAsk : LineCode → Type 0 → List ℕ → List Frame → List ℕ → List (List ℕ) → Type 0
-MayAsk line IsUnderWay bytes given some pieces = HaveGivenAll line (arrivals_given line bytes given) some
-    × (IsUnderWay → EndsInFrame line given some × (EndShort pieces → ⊥))
+abbrev pub MayAsk : Decoding → Type 0 → List ℕ → List Frame → List ℕ → List (List ℕ) → Type 0
+MayAsk decoding IsUnderWay bytes given some pieces = HaveGivenAll decoding (arrivals_given decoding bytes given) some
+    × (IsUnderWay → EndsInFrame decoding given some × (EndShort pieces → ⊥))
 
--- a source of symbols: what is said of it, and the line code of what it gives
+-- a source of symbols: what is said of it, and how what it gives is decoded
 pub record SymbolSource (S : Type 0) : Type 1 where
   pub source : SourceOf S
-  pub line : LineCode
+  pub decoding : Decoding
 
-abbrev pub symbols_from : {S : Type 0} → SourceOf S → LineCode → SymbolSource S
-symbols_from source line = record { source = source; line = line }
+abbrev pub symbols_from : {S : Type 0} → SourceOf S → Decoding → SymbolSource S
+symbols_from source decoding = record { source = source; decoding = decoding }
 
 -- the bytes that were taken since the source was the first one, and the frames that were given of them
 pub record Taken (S : Type 0) : Type 0 where
@@ -117,6 +118,7 @@ module _ {S : Type 0} (source : SourceOf S) where
   pub record FeedsPiece (before now : AtSource FeedState S) : Type 0 where
     pub piece : List ℕ
     pub some : 0 < length piece
+    pub within : length piece ≤ FRAME_SYMBOLS
     pub lock_is : now.state.lock
         ≡ record (before.state.lock) { kept = before.state.lock.kept ++ symbols_of piece }
     pub stands : (fed : List ℤ) (given : List Frame) → LockStandsFor before.state.lock fed given
@@ -154,7 +156,7 @@ module _ {S : Type 0} (symbols : SymbolSource S) where
   -- these bytes were taken, and these frames given of them
   pub record FedSoFar (so_far : Taken S) (now : AtSource FeedState S) : Type 0 where
     pub stands : LockStandsFor now.state.lock (symbols_of so_far.bytes) so_far.given
-    pub line_is : now.state.lock.line ≡ symbols.line
+    pub line_is : now.state.lock.line ≡ symbols.decoding.line
     pub long : now.state.taken ≡ length so_far.bytes
     pub few : now.state.taken ≤ now.state.most
     pub passed : FRAME_SYMBOLS * length so_far.given + length now.state.lock.kept ≤ now.state.taken
@@ -172,7 +174,7 @@ module _ {S : Type 0} (symbols : SymbolSource S) where
   abbrev pub LooksFirst : Type 0 → AtSource (Taken S) S → List ℕ → S → Type 0
   LooksFirst IsUnderWay before all s' =
       ((all ≡ before.state.bytes) × (s' ≡ before.source))
-      ⊎ LastCall symbols.source (MayAsk symbols.line IsUnderWay before.state.bytes before.state.given) all
+      ⊎ LastCall symbols.source (MayAsk symbols.decoding IsUnderWay before.state.bytes before.state.given) all
       before.state.first s'
 
   -- more bytes were taken; what comes of the frames given stays
@@ -181,8 +183,8 @@ module _ {S : Type 0} (symbols : SymbolSource S) where
     pub so_far : FedSoFar (taken_since before.state.first all before.state.given) now
     pub looks : LooksFirst IsUnderWay before all now.source
     pub near : IsUnderWay → StaysNear before.state.bytes before.state.given all
-    pub same : arrivals_given symbols.line all before.state.given
-        ≡ arrivals_given symbols.line before.state.bytes before.state.given
+    pub same : arrivals_given symbols.decoding all before.state.given
+        ≡ arrivals_given symbols.decoding before.state.bytes before.state.given
 
   -- the next frame was given
   pub record GivesFrame (IsUnderWay : Type 0) (before : AtSource (Taken S) S) (window : WindowView)
@@ -194,9 +196,9 @@ module _ {S : Type 0} (symbols : SymbolSource S) where
     pub near : IsUnderWay → StaysNear before.state.bytes before.state.given all
     pub whole : place_after_frame frame ≤ length all
     pub ahead : length all ≤ place_after_frame frame + most_kept
-    pub window_is : window ≡ window_view symbols.line (symbols_of all) frame
-    pub same : arrivals_given symbols.line all before.state.given
-        ≡ arrivals_given symbols.line before.state.bytes before.state.given
+    pub window_is : window ≡ window_view symbols.decoding.line symbols.decoding.passes (symbols_of all) frame
+    pub same : arrivals_given symbols.decoding all before.state.given
+        ≡ arrivals_given symbols.decoding before.state.bytes before.state.given
 
   -- there is none: all frames were given
   pub record EndsFrames (IsUnderWay : Type 0) (stop : Stop) (before : AtSource (Taken S) S)
@@ -208,9 +210,9 @@ module _ {S : Type 0} (symbols : SymbolSource S) where
     pub near : IsUnderWay → StaysNear before.state.bytes before.state.given all
     pub closed : now.state.lock.finished ≡ true
     pub stop_is : now.state.stop ≡ stop
-    pub every : AreFrames (tail_of symbols.line) (symbols_of all) before.state.given
-    pub same : arrivals_given symbols.line all before.state.given
-        ≡ arrivals_given symbols.line before.state.bytes before.state.given
+    pub every : AreFrames (tail_of symbols.decoding.line) (symbols_of all) before.state.given
+    pub same : arrivals_given symbols.decoding all before.state.given
+        ≡ arrivals_given symbols.decoding before.state.bytes before.state.given
 
   abbrev pub Feeds : Type 0 → Found → AtSource (Taken S) S → WindowView → AtSource FeedState S → Type 0
   Feeds IsUnderWay Whole before window now = GivesFrame IsUnderWay before window now

@@ -4,7 +4,7 @@ use Rattle.lr_bits.specs.declared.outcome.Outcome.{Outcome}
 use Rattle.lr_bits.specs.declared.outcome.Outcome.TheVariants.{Restored}
 use Rattle.lr_bits.specs.declared.sizes.TheConstants.{BLOCK_BYTES, FRAME_BYTES}
 use Rattle.lr_lock.specs.Symbols.{symbols_of}
-use Rattle.lr_frame.specs.Outcomes.{outcomes_of_symbols}
+use Rattle.lr_frame.specs.Outcomes.{redecoded_outcomes}
 use Rattle.lr_block.specs.Outcomes.{outcome_of_block}
 use Rattle.lr_forms.specs.declared.forms.Input.{Input}
 use Rattle.lr_forms.specs.declared.forms.Input.TheVariants.{Symbols, Units}
@@ -33,15 +33,15 @@ outcomes_of_units form units = map (outcome_of_unit form) units
 -- The outcomes of the bytes read: those of the windows of all frames of the symbols, under their line code, or those
 -- of each whole block or frame.
 unfoldable pub outcomes_of_bytes : Input → List ℕ → List Outcome
-outcomes_of_bytes (Symbols line) bytes = outcomes_of_symbols line (symbols_of bytes)
+outcomes_of_bytes (Symbols decoding) bytes = redecoded_outcomes decoding.line decoding.passes (symbols_of bytes)
 outcomes_of_bytes (Units form) bytes = outcomes_of_units form (units_of (unit_bytes form) bytes)
 
 -- how many bytes are left that are no whole block or frame; of symbols none are
 abbrev pub bytes_left_over : Input → List ℕ → ℕ
-bytes_left_over (Symbols line) bytes = 0
+bytes_left_over (Symbols decoding) bytes = 0
 bytes_left_over (Units form) bytes = length bytes % unit_bytes form
 
 -- how many bytes may be taken: of symbols at most 2^61
 abbrev pub MayTake : Input → ℕ → Type 0
-MayTake (Symbols line) most = most ≤ 2 ^ 61
+MayTake (Symbols decoding) most = most ≤ 2 ^ 61
 MayTake (Units form) most = Unit {0}

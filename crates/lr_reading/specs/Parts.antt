@@ -6,10 +6,11 @@ use Rattle.lr_reading.specs.declared.reader_parts.ReaderParts.{ReaderParts}
 use Rattle.lr_reading.specs.declared.reader_parts.ReaderParts.TheVariants.{Symbols, Units}
 use Rattle.lr_reading.specs.Intakes.{IsFreshIntake}
 use Rattle.lr_reading.specs.Readers.{Shared, windows_for}
+use Rattle.lr_reading.specs.WindowSources.{decoding_of}
 
 -- the form of the input that it reads
 abbrev pub input_of_parts : {H T : Type 0} → ReaderParts H T → Input
-input_of_parts (Symbols symbol_parts) = Symbols' symbol_parts.intake.feed.lock.line
+input_of_parts (Symbols symbol_parts) = Symbols' (decoding_of symbol_parts.intake)
 input_of_parts (Units form) = Units' form
 
 -- what those who work on it share

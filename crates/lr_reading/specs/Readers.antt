@@ -28,21 +28,21 @@ windows_for workers = if workers == 1 then 1 else 2 * workers + 2
 -- what this many share, the caller among them: of symbols a seat for each of the others. Of units the caller works
 -- alone
 abbrev pub shared_by : Input → ℕ → Shared
-shared_by (Symbols line) workers =
+shared_by (Symbols decoding) workers =
     record { seats = workers - 1; cells = 2 * workers + 2; windows = windows_for workers }
 shared_by (Units form) workers = record { seats = 0; cells = 0; windows = 0 }
 
 -- Of the frames, or of the blocks or frames of bytes, that come of these bytes the first ones, this many, have come,
 -- and after each of them this many symbols or bytes more.
 abbrev pub HaveCome : Input → (beyond : ℕ) → List ℕ → (count : ℕ) → Type 0
-HaveCome (Symbols line) beyond bytes count =
-    (count ≤ length (frames_of (tail_of line) (symbols_of bytes)))
+HaveCome (Symbols decoding) beyond bytes count =
+    (count ≤ length (frames_of (tail_of decoding.line) (symbols_of bytes)))
     × All (λ (frame : Frame). place_after_frame frame + beyond ≤ length bytes)
-    (take count (frames_of (tail_of line) (symbols_of bytes)))
+    (take count (frames_of (tail_of decoding.line) (symbols_of bytes)))
 HaveCome (Units form) beyond bytes count = count * unit_bytes form + beyond ≤ length bytes
 
--- The last one of these pieces is short, or there is none: it has fewer symbols than a frame. A source of symbols is
--- asked for as many as a frame has, but for the limit, so one that gave fewer may have nothing at hand.
+-- The last one of these pieces is short, or there is none: it has fewer symbols than a frame. No call gives more than a
+-- frame has, so a source that gave fewer may have nothing at hand, and one that gave as many may have more.
 abbrev pub EndShort : List (List ℕ) → Type 0
 EndShort [] = Unit {0}
 EndShort (piece ∷ []) = length piece < FRAME_SYMBOLS
@@ -73,7 +73,7 @@ leeway_with windows = record {
 
 -- where this many work; no block or frame of bytes waits for another call, or after another
 abbrev pub leeway_for : Input → (workers : ℕ) → Leeway
-leeway_for (Symbols line) workers = leeway_with (windows_for workers)
+leeway_for (Symbols decoding) workers = leeway_with (windows_for workers)
 leeway_for (Units form) workers = record { tail = 0; when_asked = 0; at_end = 1; ahead = 1 }
 
 -- At most this many frames may wait as the source is asked, which gave these bytes in these pieces: none where the last

@@ -5,6 +5,7 @@ use Rattle.std.specs.List.{concat, range_with_len}
 use Rattle.lr_bits.specs.Faults.{Rose}
 use Rattle.lr_bits.specs.declared.refusals.Failed.{Failed}
 use Rattle.lr_bits.specs.Telling.{KeepsTelling}
+use Rattle.lr_bits.specs.declared.sizes.TheConstants.{FRAME_SYMBOLS}
 use Rattle.lr_io.specs.declared.source.Source.{Ghosts as SourceOf}
 use Rattle.lr_forms.specs.declared.forms.Stop.{Stop}
 use Rattle.lr_forms.specs.declared.forms.Stop.TheVariants.{End, Limit, Fault}
@@ -27,11 +28,12 @@ module _ {S : Type 0} (source : SourceOf S) where
   abbrev pub AsksOnce : S → List ℕ → S → Type 0
   AsksOnce s piece s' = (answer : Result ℕ Failed) × source.asked s answer s' × HasGiven answer piece
 
-  -- calls on the source that gave these pieces, one after another: each gave some bytes, and its count didn't rise
+  -- calls on the source that gave these pieces, one after another: each gave some bytes, at most those of a frame's
+  -- symbols, and its count didn't rise
   abbrev pub HaveGiven : List (List ℕ) → S → S → Type 0
   HaveGiven [] s s' = s' ≡ s
-  HaveGiven (piece ∷ pieces) s s' = (0 < length piece) × ((t : S) × source.asked s (Ok (length piece)) t
-      × (source.faults t ≡ source.faults s) × HaveGiven pieces t s')
+  HaveGiven (piece ∷ pieces) s s' = (0 < length piece) × (length piece ≤ FRAME_SYMBOLS)
+      × ((t : S) × source.asked s (Ok (length piece)) t × (source.faults t ≡ source.faults s) × HaveGiven pieces t s')
 
   -- these bytes came by such calls: none failed, and none found the end
   abbrev pub CameInPieces : List ℕ → S → S → Type 0

@@ -1,7 +1,7 @@
 -- How far a consumer was led through what comes of the input.
 use Rattle.std.specs.Prelude.{◌≡◌, ◌<◌, ◌≤◌, ◌+◌, ℕ, List, [], ◌++◌, length, take, Result, Ok, Err}
+use Rattle.lr_forms.specs.declared.forms.Decoding.{Decoding}
 use Rattle.lr_bits.specs.Faults.{Rose}
-use Rattle.lr_conv.specs.declared.line.LineCode.{LineCode}
 use Rattle.lr_io.specs.declared.source.Source.{Ghosts as SourceOf}
 use Rattle.lr_reading.specs.Arrivals.{arrivals_of}
 use Rattle.lr_reading.specs.Inputs.{bytes_left_over}
@@ -79,7 +79,7 @@ module _ {S C : Type 0} (course : Course S C) where
         now.source
     pub stops : (c : C) → course.took c [] before.consumer → stopped c passed cause now.consumer
     -- of symbols they are the first ones of all that the source gives, where it had not failed nor reached the limit
-    pub begins : (line : LineCode) → course.input ≡ Symbols line → course.source.tells before.source
+    pub begins : (decoding : Decoding) → course.input ≡ Symbols decoding → course.source.tells before.source
         → length bytes < course.limit
         → (Rose (course.source.faults before.source) (course.source.faults now.source) → ⊥)
         → (later : List Arrival)

@@ -3,16 +3,16 @@ use Rattle.std.specs.Prelude.{◌≡◌, ◌⊎◌, ◌<◌, ◌≤◌, ◌+◌,
 use Rattle.std.specs.Prelude.{List, [], ◌∷◌, ◌++◌, length, map, take, drop, vec_len, vec_capacity}
 use Rattle.std.specs.Prelude.{IsSome, Result}
 use Rattle.std.specs.List.{All}
+use Rattle.lr_forms.specs.declared.forms.Decoding.{Decoding}
 use Rattle.lr_lock.specs.Thresholds.{lock_symbols}
 use Rattle.lr_bits.specs.declared.sizes.TheConstants.{FRAME_BYTES}
 use Rattle.lr_conv.specs.Marker.{tail_of}
-use Rattle.lr_conv.specs.declared.line.LineCode.{LineCode}
 use Rattle.lr_io.specs.declared.source.Source.{Ghosts as SourceOf}
 use Rattle.lr_lock.specs.Frames.{AreFrames, place_after_frame}
 use Rattle.lr_lock.specs.Symbols.{symbols_of}
 use Rattle.lr_lock.specs.Windows.{WindowView}
 use Rattle.lr_lock.specs.declared.frame.Frame.{Frame}
-use Rattle.lr_frame.specs.Outcomes.{outcome_of_window}
+use Rattle.lr_frame.specs.Outcomes.{redecoded_outcome}
 use Rattle.lr_forms.specs.declared.forms.Input.TheVariants.{Symbols}
 use Rattle.lr_forms.specs.declared.forms.Stop.{Stop}
 use Rattle.lr_rounds.specs.JobSources.{Led, SourceTerms}
@@ -33,36 +33,40 @@ use Rattle.lr_reading.specs.declared.window_source.WindowSource.{WindowSource}
 abbrev pub arrival_of_window : WindowView → Arrival
 arrival_of_window window = record {
   position = Some (record { place = window.position; positive = window.positive });
-  outcome = outcome_of_window window.line window.symbols;
+  outcome = redecoded_outcome window.line window.passes window.symbols;
 }
 
--- each window is of this line code
-abbrev pub AreOfLine : LineCode → List WindowView → Type 0
-AreOfLine line windows = All (λ (window : WindowView). window.line ≡ line) windows
+-- a window is decoded so
+abbrev pub IsFor : Decoding → WindowView → Type 0
+IsFor decoding window = (window.line ≡ decoding.line) × (window.passes ≡ decoding.passes)
+
+-- each window is
+abbrev pub AreDecoded : Decoding → List WindowView → Type 0
+AreDecoded decoding windows = All (IsFor decoding) windows
 
 -- There are windows. Each is spare, or was given, and what became of it not kept
 pub record HasWindows (given kept : ℕ) (intake : Intake) : Type 0 where
   pub some : 0 < vec_capacity intake.spare
   pub all : vec_len intake.spare + given ≡ vec_capacity intake.spare + kept
 
--- these arrivals are what becomes of the windows, and all windows are of this line code
-pub record HasWindowJobs (line : LineCode) (arrivals : List Arrival) (windows : List WindowView) (kept : ℕ)
+-- these arrivals are what becomes of the windows, and all windows are decoded so
+pub record HasWindowJobs (decoding : Decoding) (arrivals : List Arrival) (windows : List WindowView) (kept : ℕ)
     (intake : Intake) : Type 0 where
   pub jobs : map arrival_of_window windows ≡ arrivals
-  pub job_lines : AreOfLine line windows
-  pub spare_lines : AreOfLine line intake.spare.items
+  pub job_lines : AreDecoded decoding windows
+  pub spare_lines : AreDecoded decoding intake.spare.items
   pub count : intake.frames ≡ kept
 
 -- no frame comes after these, for this reason
-pub record IsOver (line : LineCode) (bytes : List ℕ) (given : List Frame) (feed : FeedState) (stop : Stop)
+pub record IsOver (decoding : Decoding) (bytes : List ℕ) (given : List Frame) (feed : FeedState) (stop : Stop)
     : Type 0 where
   pub closed : feed.lock.finished ≡ true
   pub stop_is : feed.stop ≡ stop
-  pub every : AreFrames (tail_of line) (symbols_of bytes) given
+  pub every : AreFrames (tail_of decoding.line) (symbols_of bytes) given
 
 -- the first arrivals, those that were kept
-abbrev pub first_arrivals : LineCode → List ℕ → List Frame → ℕ → List Arrival
-first_arrivals line bytes given kept = take kept (arrivals_given line bytes given)
+abbrev pub first_arrivals : Decoding → List ℕ → List Frame → ℕ → List Arrival
+first_arrivals decoding bytes given kept = take kept (arrivals_given decoding bytes given)
 
 -- no more windows are to come than this
 abbrev pub left_to_feed : Option Stop → FeedState → ℕ
@@ -103,7 +107,7 @@ module _ {S : Type 0} (symbols : SymbolSource S) where
   LooksForSpare taken all old s' =
       ((all ≡ taken.bytes) × (s' ≡ old.source))
       ⊎ ((0 < vec_len old.state.spare) × LastCall symbols.source
-      (MayAsk symbols.line (vec_len old.state.spare < vec_capacity old.state.spare) taken.bytes taken.given) all
+      (MayAsk symbols.decoding (vec_len old.state.spare < vec_capacity old.state.spare) taken.bytes taken.given) all
       taken.first s')
 
 -- what windows are filled from: these symbols, of which no more bytes than these are taken
@@ -119,10 +123,11 @@ module _ {S : Type 0} (stream : WindowStream S) where
   pub record IsGiven (so_far : Progress S) (now : AtSource Intake S) : Type 0 where
     pub feeds : FedSoFar stream.symbols so_far.taken (at_source now.state.feed now.source)
     pub limit_is : now.state.feed.most ≡ stream.limit
-    pub jobs : HasWindowJobs stream.symbols.line
-        (arrivals_given stream.symbols.line so_far.taken.bytes so_far.taken.given) so_far.windows so_far.kept now.state
+    pub jobs : HasWindowJobs stream.symbols.decoding
+        (arrivals_given stream.symbols.decoding so_far.taken.bytes so_far.taken.given) so_far.windows so_far.kept
+        now.state
     pub over : (stop : Stop) → now.state.ended ≡ Some stop
-        → IsOver stream.symbols.line so_far.taken.bytes so_far.taken.given now.state.feed stop
+        → IsOver stream.symbols.decoding so_far.taken.bytes so_far.taken.given now.state.feed stop
     -- three whole frames of 16,384 symbols at most stand in the lock
     pub short : now.state.ended ≡ None → length now.state.feed.lock.kept ≤ most_kept
     -- where no window is spare, nothing was taken since the last one was given
@@ -135,8 +140,8 @@ module _ {S : Type 0} (stream : WindowStream S) where
     pub is_given : IsGiven (progress (taken_since so_far.taken.first all every) so_far.windows so_far.kept) new
     pub looks : LooksForSpare stream.symbols so_far.taken all old new.source
     pub rest : List Arrival
-    pub grown : arrivals_given stream.symbols.line all every
-        ≡ arrivals_given stream.symbols.line so_far.taken.bytes so_far.taken.given ++ rest
+    pub grown : arrivals_given stream.symbols.decoding all every
+        ≡ arrivals_given stream.symbols.decoding so_far.taken.bytes so_far.taken.given ++ rest
     -- frames whose windows are under way stay close, from the first one that is
     pub close : (first : ℕ) → first ≤ length so_far.taken.given
         → (first < length so_far.taken.given → vec_len old.state.spare < vec_capacity old.state.spare)
@@ -173,14 +178,17 @@ module _ {C : Type 0} (took : C → List Arrival → C → Type 0) where
 
 -- ---- both
 
--- of which line code its symbols are
-abbrev pub line_in : {S C : Type 0} → WindowSource S C → LineCode
-line_in now = now.intake.now.feed.lock.line
+-- how its symbols are decoded
+abbrev pub decoding_of : Intake → Decoding
+decoding_of intake = record { line = intake.feed.lock.line; passes = intake.passes }
+
+abbrev pub decoding_in : {S C : Type 0} → WindowSource S C → Decoding
+decoding_in now = decoding_of now.intake.now
 
 -- what a job source is led through, from its first one on
 abbrev pub course_from : {S C : Type 0} → SourceOf S → (C → List Arrival → C → Type 0) → WindowSource S C → Course S C
 course_from source took start =
-    course_of source took (Symbols (line_in start)) start.intake.now.feed.most (leeway_in start.intake.now)
+    course_of source took (Symbols (decoding_in start)) start.intake.now.feed.most (leeway_in start.intake.now)
 
 -- what it was lent
 abbrev pub lent_in : {S C : Type 0} → WindowSource S C → Lent S C
@@ -200,14 +208,14 @@ module _ {S C Cause : Type 0} (source : SourceOf S) (consumer : ConsumerOf C Cau
     pub behind : led.kept ≤ length led.jobs
     pub bytes : List ℕ
     pub given : List Frame
-    pub is_given : IsGiven (stream_of (symbols_from source (line_in led.start)) led.start.intake.now.feed.most)
+    pub is_given : IsGiven (stream_of (symbols_from source (decoding_in led.start)) led.start.intake.now.feed.most)
         (progress (taken_since led.start.source.now bytes given) led.jobs led.kept)
         (at_source now.intake.now now.source.now)
     pub close : AreClose (drop led.kept given) (length bytes)
-    pub in_time : WhenLastAsked source (ComeInTime (Symbols (line_in led.start)) (leeway_in led.start.intake.now) 0
-        (first_arrivals (line_in led.start) bytes given led.kept)) bytes led.start.source.now now.source.now
+    pub in_time : WhenLastAsked source (ComeInTime (Symbols (decoding_in led.start)) (leeway_in led.start.intake.now) 0
+        (first_arrivals (decoding_in led.start) bytes given led.kept)) bytes led.start.source.now now.source.now
     pub taken : (c : C) → consumer.took c [] led.start.consumer.now
-        → consumer.took c (first_arrivals (line_in led.start) bytes given led.kept) now.consumer.now
+        → consumer.took c (first_arrivals (decoding_in led.start) bytes given led.kept) now.consumer.now
 
   -- the job source was the first one, and the consumer stopped for this cause
   pub record StopsAt (start : WindowSource S C) (cause : Cause) (now : WindowSource S C) : Type 0 where

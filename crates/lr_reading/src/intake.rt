@@ -1,12 +1,12 @@
 //! The windows and the feed of a reader of symbols.
 
 ghost use Rattle.std.specs.Prelude.{◌≡◌, IfOk, vec_len, vec_capacity};
-ghost use Rattle.lr_reading.specs.WindowSources.{AreOfLine};
+ghost use Rattle.lr_reading.specs.WindowSources.{AreDecoded};
 
 use crate::symbols::SymbolFeed;
 use lr_bits::NoMemory;
-use lr_conv::LineCode;
-use lr_forms::Stop;
+use lr_conv::Passes;
+use lr_forms::{Decoding, Stop};
 use lr_lock::Window;
 use std::alloc::Global;
 
@@ -14,6 +14,8 @@ use std::alloc::Global;
 #[derive(Drop)]
 pub(crate) struct Intake {
     pub feed: SymbolFeed,
+    /// How many passes are made over each window.
+    pub passes: Passes,
     /// The windows that no job has. There is room for all.
     pub spare: Vec<Window>,
     /// How many arrivals the consumer took.
@@ -23,13 +25,13 @@ pub(crate) struct Intake {
 }
 
 /// This many windows.
-fn new_windows(alloc: Global, line: LineCode, count: usize) -> Result<Vec<Window>, NoMemory>
-    ensures lines { IfOk result (λ windows. AreOfLine line windows.items) }
+fn new_windows(alloc: Global, decoding: Decoding, count: usize) -> Result<Vec<Window>, NoMemory>
+    ensures lines { IfOk result (λ windows. AreDecoded decoding windows.items) }
     ensures all { IfOk result (λ windows. (vec_len windows ≡ count) × (vec_capacity windows ≡ count)) }
 {
     let mut windows = Vec::with_capacity(alloc, count)?;
     for _ in 0..count {
-        windows.push_reserved(Window::new(alloc, line)?);
+        windows.push_reserved(Window::with_passes(alloc, decoding.line, decoding.passes)?);
     }
     Ok(windows)
 }
@@ -37,24 +39,26 @@ fn new_windows(alloc: Global, line: LineCode, count: usize) -> Result<Vec<Window
 impl Intake {
     ghost use Rattle.std.specs.Prelude.{◌≡◌, ◌↔◌, ◌<◌, ◌≤◌, ◌^◌, true, IfOk, vec_len, vec_capacity};
     ghost use Rattle.lr_reading.specs.Intakes.{IsFreshIntake};
+    ghost use Rattle.lr_reading.specs.WindowSources.{decoding_of};
 
     /// This many windows, and the memory that filling them takes. At most `most` bytes will be taken.
     pub(crate) fn new(
         alloc: Global,
-        line: LineCode,
+        decoding: Decoding,
         most: u64,
         count: usize,
     ) -> Result<Intake, NoMemory>
         requires most { most ≤ 2 ^ 61 }
         requires some { 0 < count }
         ensures fresh { IfOk result (IsFreshIntake most) }
-        ensures line { IfOk result (λ intake. intake.feed.lock.line ≡ line) }
+        ensures decoding { IfOk result (λ intake. decoding_of intake ≡ decoding) }
         ensures windows { IfOk result (λ intake. vec_capacity intake.spare ≡ count) }
     {
-        let spare = new_windows(alloc, line, count)?;
-        let feed = SymbolFeed::new(alloc, line, most)?;
+        let spare = new_windows(alloc, decoding, count)?;
+        let feed = SymbolFeed::new(alloc, decoding.line, most)?;
         Ok(Intake {
             feed,
+            passes: decoding.passes,
             spare,
             frames: 0,
             ended: None,

@@ -66,8 +66,8 @@ impl<H: Hand> Reader<H> {
         }) }
     {
         let parts = match input {
-            Input::Symbols(line) => {
-                ReaderParts::Symbols(SymbolParts::<H>::new(alloc, line, most, workers, tools)?)
+            Input::Symbols(decoding) => {
+                ReaderParts::Symbols(SymbolParts::<H>::new(alloc, decoding, most, workers, tools)?)
             }
             Input::Units(form) => ReaderParts::Units(form),
         };

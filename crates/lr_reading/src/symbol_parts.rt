@@ -5,7 +5,7 @@ ghost use Rattle.lr_reading.specs.Readers.{windows_for};
 
 use crate::intake::Intake;
 use lr_bits::NoMemory;
-use lr_conv::LineCode;
+use lr_forms::Decoding;
 use lr_frame::{Hand, Hired};
 use lr_gatecore::{MOST_HANDS, MOST_SEATS};
 use lr_rounds::WorkerPool;
@@ -59,13 +59,14 @@ impl<H: Hand> SymbolParts<H> {
     ghost use Rattle.std.specs.Prelude.{◌≡◌, ◌-◌, ◌≤◌, ◌^◌, IfOk, vec_capacity};
     ghost use Rattle.lr_rounds.specs.WorkerPools.{pool_with};
     ghost use Rattle.lr_reading.specs.Intakes.{IsFreshIntake};
+    ghost use Rattle.lr_reading.specs.WindowSources.{decoding_of};
     ghost use Rattle.lr_reading.specs.Readers.{windows_for};
 
-    /// All memory that reading symbols of this line code takes, where this many work on windows, the caller among
+    /// All memory that reading symbols that are decoded so takes, where this many work on windows, the caller among
     /// them. At most `most` bytes will be taken.
     pub(crate) fn new(
         alloc: Global,
-        line: LineCode,
+        decoding: Decoding,
         most: u64,
         workers: u32,
         tools: &H::Tools,
@@ -73,11 +74,11 @@ impl<H: Hand> SymbolParts<H> {
         requires most { most ≤ 2 ^ 61 }
         requires workers { (1 ≤ workers) × (workers ≤ MOST_SEATS) }
         ensures fresh { IfOk result (λ symbol_parts. IsFreshIntake most symbol_parts.intake) }
-        ensures line { IfOk result (λ symbol_parts. symbol_parts.intake.feed.lock.line ≡ line) }
+        ensures decoding { IfOk result (λ symbol_parts. decoding_of symbol_parts.intake ≡ decoding) }
         ensures pool { IfOk result (λ symbol_parts. symbol_parts.pool ≡ pool_with (workers - 1)) }
         ensures windows { IfOk result (λ symbol_parts. vec_capacity symbol_parts.intake.spare ≡ windows_for workers) }
     {
-        let intake = Intake::new(alloc, line, most, count_windows(workers) as usize)?;
+        let intake = Intake::new(alloc, decoding, most, count_windows(workers) as usize)?;
         let pool = new_pool::<H>(alloc, tools, workers - 1)?;
         Ok(SymbolParts { intake, pool })
     }

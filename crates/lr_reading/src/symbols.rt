@@ -108,6 +108,7 @@ impl SymbolFeed {
       Taken,
       symbols_from,
     };
+    ghost use Rattle.lr_forms.specs.declared.forms.Decoding.{Decoding};
     ghost use Rattle.lr_reading.specs.declared.next.Found.TheVariants.{Whole, Noise};
 
     /// The memory that feeding symbols of this line code takes. At most `most` bytes will be taken.
@@ -170,10 +171,10 @@ impl SymbolFeed {
     fn more<S: Source>(&mut self, source: &mut S)
         requires unfinished { self.old.lock.finished ≡ false }
         requires looked { length self.old.lock.kept < WINDOW_END }
-        ensures feeds { (line : LineCode) (so_far : Taken _) (under_way : Bool)
-            → FedSoFar (symbols_from S.Source line) so_far (at_source self.old source.old)
+        ensures feeds { (decoding : Decoding) (so_far : Taken _) (under_way : Bool)
+            → FedSoFar (symbols_from S.Source decoding) so_far (at_source self.old source.old)
             → (under_way ≡ true → (is_none self.old.lock.held ≡ false) × (self.old.short ≡ false))
-            → FeedsOn (symbols_from S.Source line) (under_way ≡ true) (at_source so_far source.old)
+            → FeedsOn (symbols_from S.Source decoding) (under_way ≡ true) (at_source so_far source.old)
             (at_source self.new source.new) }
         ensures standing { IsStanding self.old.lock → IsStanding self.new.lock }
         ensures most { self.new.most ≡ self.old.most }
@@ -206,14 +207,15 @@ impl SymbolFeed {
     ) -> Found
         requires standing { IsStanding self.old.lock }
         requires line { window.old.line ≡ self.old.lock.line }
-        ensures feeds { (line : LineCode) (so_far : Taken _)
-            → FedSoFar (symbols_from S.Source line) so_far (at_source self.old source.old)
-            → Feeds (symbols_from S.Source line) (under_way ≡ true) result (at_source so_far source.old) window.new
+        ensures feeds { (decoding : Decoding) (so_far : Taken _) → window.old.passes ≡ decoding.passes
+            → FedSoFar (symbols_from S.Source decoding) so_far (at_source self.old source.old)
+            → Feeds (symbols_from S.Source decoding) (under_way ≡ true) result (at_source so_far source.old) window.new
             (at_source self.new source.new) }
         ensures standing { IsStanding self.new.lock }
         ensures most { self.new.most ≡ self.old.most }
         ensures line { self.new.lock.line ≡ self.old.lock.line }
         ensures window_line { window.new.line ≡ window.old.line }
+        ensures window_passes { window.new.passes ≡ window.old.passes }
         ensures fewer { result ≡ Whole → symbols_left self.new < symbols_left self.old }
         ensures no_more { symbols_left self.new ≤ symbols_left self.old }
         ensures short { result ≡ Whole → length self.new.lock.kept ≤ most_kept }

@@ -18,23 +18,26 @@ pub(crate) struct UnitFeed<const N: usize> {
 
 impl<const N: usize> Model for UnitFeed<N> {
     ghost use Rattle.std.specs.Prelude.{take, ◌≤◌};
+    ghost use Rattle.lr_bits.specs.declared.sizes.TheConstants.{FRAME_SYMBOLS};
     ghost use Rattle.lr_reading.specs.Gathering.{UnitState};
 
     ghost Value = { UnitState };
 
     ghost view = { λ u. record { held = take u.filled u.buffer; taken = u.taken; most = u.most } };
 
-    ghost invariant = { λ u. (u.filled ≤ N) × (u.taken ≤ u.most) };
+    ghost invariant = { λ u. (u.filled ≤ N) × (N ≤ FRAME_SYMBOLS) × (u.taken ≤ u.most) };
 }
 
 impl<const N: usize> UnitFeed<N> {
     ghost use Rattle.std.specs.Prelude.{◌≡◌, ◌<◌, ◌≤◌, ◌+◌, ◌↔◌, [], length, IsTrue, IfOk, OnErr};
     ghost use Rattle.lr_bits.specs.Faults.{HasCause};
+    ghost use Rattle.lr_bits.specs.declared.sizes.TheConstants.{FRAME_SYMBOLS};
     ghost use Rattle.lr_reading.specs.Gathering.{Gathers, GathersFor, GathersOn, GathersUpTo};
     ghost use Rattle.lr_reading.specs.Reading.{at_source};
 
     /// Nothing is held, and at most `most` bytes will be taken.
     pub(crate) fn new(most: u64) -> Self
+        requires { N ≤ FRAME_SYMBOLS }
         ensures { result ≡ record { held = []; taken = 0; most = most } }
     {
         UnitFeed {

@@ -1,6 +1,6 @@
 //! A consumer is led through the windows of a source: what the rounds of `lr_rounds` ask for.
 ghost use Rattle.std.specs.Prelude.{◌≡◌, ◌<◌, ◌+◌, ◌^◌, ◌++◌, ◌∷◌, [], ℕ, List, OnOk, IfErr, vec_len, vec_capacity};
-ghost use Rattle.lr_conv.specs.declared.line.LineCode.{LineCode};
+ghost use Rattle.lr_forms.specs.declared.forms.Decoding.{Decoding};
 ghost use Rattle.lr_frame.specs.Hands.{done_of};
 ghost use Rattle.lr_reading.specs.Feeding.{symbols_from};
 ghost use Rattle.lr_reading.specs.Reading.{at_source};
@@ -46,11 +46,11 @@ fn position_of(window: &Window) -> Position
 /// Fills a spare window with the next frame, or ends the input. While the lock searches, it asks the source only once
 /// no window is under way.
 fn next_window<S: Source>(intake: &mut Intake, source: &mut S) -> NextJob<Window>
-    requires { (line : LineCode) × (limit : ℕ) × (so_far : Progress _)
-        × IsGiven (stream_of (symbols_from S.Source line) limit) so_far (at_source intake.old source.old) }
-    ensures offers { (line : LineCode) (limit : ℕ) (so_far : Progress _)
-        → IsGiven (stream_of (symbols_from S.Source line) limit) so_far (at_source intake.old source.old)
-        → HasNextJob (stream_of (symbols_from S.Source line) limit) result so_far (at_source intake.old source.old)
+    requires { (decoding : Decoding) × (limit : ℕ) × (so_far : Progress _)
+        × IsGiven (stream_of (symbols_from S.Source decoding) limit) so_far (at_source intake.old source.old) }
+    ensures offers { (decoding : Decoding) (limit : ℕ) (so_far : Progress _)
+        → IsGiven (stream_of (symbols_from S.Source decoding) limit) so_far (at_source intake.old source.old)
+        → HasNextJob (stream_of (symbols_from S.Source decoding) limit) result so_far (at_source intake.old source.old)
         (at_source intake.new source.new) }
     ensures less { LeavesFewer result intake.old intake.new }
 {

@@ -2,7 +2,7 @@
 ghost use Rattle.std.specs.Prelude.{◌≡◌, ◌≤◌, [], Some, IsSome};
 ghost use Rattle.lr_reading.specs.Intakes.{IsFreshIntake};
 ghost use Rattle.lr_reading.specs.Runs.{IsLed, course_of, lent};
-ghost use Rattle.lr_reading.specs.WindowSources.{ComesTo, leeway_in};
+ghost use Rattle.lr_reading.specs.WindowSources.{ComesTo, decoding_of, leeway_in};
 ghost use Rattle.lr_forms.specs.declared.forms.Input.TheVariants.{Symbols};
 
 use crate::consumer::Consumer;
@@ -78,7 +78,7 @@ pub(crate) fn read_windows<H: Hand, S: Source, C: Consumer>(
     requires alone { symbol_parts.pool.seats ≡ 0 }
     requires few { symbol_parts.intake.feed.most ≤ C.most }
     requires ready { (c : C) × C.took c [] consumer.old }
-    ensures { IsLed (course_of S.Source C.took (Symbols symbol_parts.intake.feed.lock.line)
+    ensures { IsLed (course_of S.Source C.took (Symbols (decoding_of symbol_parts.intake))
         symbol_parts.intake.feed.most (leeway_in symbol_parts.intake)) C.stopped result
         (lent source.old consumer.old) (lent source.new consumer.new) }
 {
@@ -101,7 +101,7 @@ pub(crate) fn read_by_all<R: Threads + Wait + Sync, H: Hand, S: Source, C: Consu
     requires fresh { IsFreshIntake symbol_parts.intake.feed.most symbol_parts.intake }
     requires few { symbol_parts.intake.feed.most ≤ C.most }
     requires ready { (c : C) × C.took c [] consumer.old }
-    ensures { IsLed (course_of S.Source C.took (Symbols symbol_parts.intake.feed.lock.line)
+    ensures { IsLed (course_of S.Source C.took (Symbols (decoding_of symbol_parts.intake))
         symbol_parts.intake.feed.most (leeway_in symbol_parts.intake)) C.stopped result
         (lent source.old consumer.old) (lent source.new consumer.new) }
 {

@@ -34,8 +34,9 @@ pub(crate) fn correct(
 }
 
 /// In how many places two words differ.
-pub(crate) fn distance_of(a: &[u8; WORD_BYTES], b: &[u8; WORD_BYTES]) -> usize
-    ensures { result ≡ distance WORD_BYTES a.now b.now }
+pub fn distance_of(a: &[u8; WORD_BYTES], b: &[u8; WORD_BYTES]) -> usize
+    ensures value { result ≡ distance WORD_BYTES a.now b.now }
+    ensures most { result ≤ WORD_BYTES }
 {
     let mut count = 0;
     for i in 0..WORD_BYTES {

@@ -13,7 +13,7 @@ use std::marker::Model;
 use std::simd::prelude::*;
 
 /// Where a step's coefficients come from: each is the next one, and the last is the one that is taken in.
-const NEXT: [usize; 32] = [
+const NEXT: [usize; CHECK_BYTES] = [
     1, 2, 3, 4, 5, 6, 7, 8, 9, 10, 11, 12, 13, 14, 15, 16, 17, 18, 19, 20, 21, 22, 23, 24, 25, 26,
     27, 28, 29, 30, 31, 32,
 ];

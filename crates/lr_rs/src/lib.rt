@@ -27,6 +27,7 @@ mod terms;
 
 ghost use Rattle.lr_rs.specs.Words.{AtMostOneIsRestored};
 
+pub use correction::distance_of;
 pub use division::Remainder;
 pub use encoding::encode;
 pub use restoring::{BeyondSixteen, RsScratch, restore};

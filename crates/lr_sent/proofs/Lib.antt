@@ -1,3 +1,4 @@
+pub mod Again
 pub mod BytesBack
 pub mod Carrying
 pub mod MadeBlocks

@@ -28,8 +28,8 @@ use Rattle.lr_lock.specs.Windows.{turned_value, window_of, window_value}
 use Rattle.lr_lock.specs.declared.frame.Frame.{Frame}
 use Rattle.lr_lock.specs.declared.sizes.TheConstants.{TAIL_START}
 use Rattle.lr_lock.proofs.Stepping.{reach}
-use Rattle.lr_frame.specs.Outcomes.{outcome_in, outcomes_of_symbols}
-use Rattle.lr_frame.proofs.Given.{all_outcomes}
+use Rattle.lr_frame.specs.Outcomes.{outcome_in}
+use Rattle.lr_frame.proofs.Given.{all_plain}
 use Rattle.lr_make.specs.Symbols.{bits_of_bytes, level}
 use Rattle.lr_sent.specs.Sent.{bits_of_blocks, symbols_of_blocks, AreRestored, AreSentFor, BlocksAreReceived, IsFrame}
 use Rattle.lr_sent.specs.Sent.{IsSentFor, SentIsReceived}
@@ -350,7 +350,7 @@ module _ (line : LineCode) (blocks : List (List ℕ)) (whole : All IsBlock block
 pub blocks_are_received : BlocksAreReceived
 blocks_are_received line blocks whole =
     let all = all_after line blocks whole [] blocks refl None refl in
-    all_outcomes line (symbols_of_blocks line blocks) (frames_of_blocks line [] blocks)
+    all_plain line (symbols_of_blocks line blocks) (frames_of_blocks line [] blocks)
     (record { next = all.0; all = all.1 })
     ∙ outcomes line blocks whole [] blocks refl
 

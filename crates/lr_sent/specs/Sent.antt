@@ -8,7 +8,8 @@ use Rattle.lr_block.specs.Outcomes.{IsBlock, outcome_of_block}
 use Rattle.lr_conv.specs.Convolution.{code}
 use Rattle.lr_conv.specs.Levels.{levels, six_zeros}
 use Rattle.lr_conv.specs.declared.line.LineCode.{LineCode}
-use Rattle.lr_frame.specs.Outcomes.{outcomes_of_symbols}
+use Rattle.lr_conv.specs.declared.passes.Passes.{Passes}
+use Rattle.lr_frame.specs.Outcomes.{outcomes_of_symbols, redecoded_outcomes}
 pub use Rattle.lr_make.specs.Received.{IsSentFor}
 use Rattle.lr_make.specs.Symbols.{bits_of_bytes, level, marked_block}
 
@@ -50,3 +51,10 @@ abbrev pub SentIsReceived : Type 0
 SentIsReceived =
     (line : LineCode) (frames blocks : List (List ℕ)) → AreSentFor frames blocks →
     AreRestored frames (outcomes_of_symbols line (symbols_of_blocks line blocks))
+
+-- the law: and it is received the same, however many passes are made
+abbrev pub SentIsRedecoded : Type 0
+SentIsRedecoded =
+    (line : LineCode) (passes : Passes) (frames blocks : List (List ℕ)) → AreSentFor frames blocks →
+    redecoded_outcomes line passes (symbols_of_blocks line blocks)
+    ≡ outcomes_of_symbols line (symbols_of_blocks line blocks)

@@ -2,7 +2,7 @@
 
 ghost use Rattle.lr_sent.specs.Carried.{PacketsWereSent};
 ghost use Rattle.lr_sent.specs.Made.{FillIsFill, MadeFilesFit, StreamIsReceived};
-ghost use Rattle.lr_sent.specs.Sent.{BlocksAreReceived, SentIsReceived};
+ghost use Rattle.lr_sent.specs.Sent.{BlocksAreReceived, SentIsReceived, SentIsRedecoded};
 
 /// The symbols of blocks have the outcomes of the blocks, in their order, under every line code.
 pub fn blocks_are_received()
@@ -13,6 +13,12 @@ pub fn blocks_are_received()
 /// restored and in their order, under every line code and wherever the wrong bytes are.
 pub fn sent_is_received()
     ensures { SentIsReceived }
+{}
+
+/// What is sent is received the same, however many passes are made over the windows: with one pass each frame is
+/// restored.
+pub fn sent_is_redecoded()
+    ensures { SentIsRedecoded }
 {}
 
 /// Each packet that comes of a channel whose frames carry packets, one after another, is one of these.

@@ -10,5 +10,5 @@ mod laws;
 
 pub use laws::{
     blocks_are_received, fill_is_fill, made_files_fit, packets_were_sent, sent_is_received,
-    stream_is_received,
+    sent_is_redecoded, stream_is_received,
 };

@@ -27,6 +27,7 @@ ghost use Rattle.lr_shelf_format.specs.Items.{
   stored_checksum,
 };
 ghost use Rattle.lr_shelf_format.specs.Record.{IsHead, file_of_body, numbers_in, origin_of_bytes};
+ghost use Rattle.lr_shelf_format.specs.declared.item.TheConstants.{ITEM_BYTES};
 ghost use Rattle.lr_shelf_format.specs.declared.record.TheConstants.{ADD_FRONT_BYTES};
 
 use crate::item::{ITEM_BYTES, ItemHead, read_item};
@@ -143,15 +144,15 @@ pub fn stored_in(alloc: Global, bytes: &[u8], head: ItemHead) -> Result<Stored, 
     }
 }
 
-/// The origin in an Add item.
+/// The origin in an Add item: three numbers of eight bytes, after the item's first bytes.
 fn origin_in(bytes: &[u8]) -> Origin
     requires { ADD_FRONT_BYTES ≤ length bytes.now }
-    ensures { result ≡ origin_of_bytes (drop 12 bytes.now) }
+    ensures { result ≡ origin_of_bytes (drop ITEM_BYTES bytes.now) }
 {
     Origin {
-        first: BigEndian::read_u64(&bytes[12..]),
-        last: BigEndian::read_u64(&bytes[20..]),
-        corrected: BigEndian::read_u64(&bytes[28..]),
+        first: BigEndian::read_u64(&bytes[ITEM_BYTES..]),
+        last: BigEndian::read_u64(&bytes[ITEM_BYTES + 8..]),
+        corrected: BigEndian::read_u64(&bytes[ITEM_BYTES + 16..]),
     }
 }
 

@@ -14,8 +14,8 @@ use Rattle.lr_words.specs.declared.command.FileAction.TheVariants.{Extract, Show
 use Rattle.lr_words.specs.declared.command.FrameLines.TheVariants.{Frames as EachFrame, Packets as EachPacket}
 use Rattle.lr_words.specs.declared.command.IntakeAction.TheVariants.{Decode, Receive}
 use Rattle.lr_words.specs.declared.command.ShelfAction.TheVariants.{List as ListAll, Verify}
-use Rattle.lr_station.specs.Effects.{effect_of}
-use Rattle.lr_station.specs.Runs.{HasEffect, Runs, RunsOrNot}
+use Rattle.lr_station.specs.Effects.{alone, effect_of}
+use Rattle.lr_station.specs.Runs.{HasEffect, RunsOrNot}
 
 module _ {S D O : Type 0} (world : World S D O)
     (only_now : (d : D) (c : List ℕ) → world.disk.tells d → world.disk.left_since d (world.disk.moment d) c
@@ -48,12 +48,35 @@ module _ {S D O : Type 0} (world : World S D O)
   by_effect (Make start frames wrong form) still run = untouched run.1
   by_effect (Trial start frames wrong workers) still run = absurd (cc (still))
 
-  by_command : (words : List (List ℕ)) → writes_shelf words ≡ false → (command : Option Command)
-      → command_of words ≡ command → Runs world command cause w w' → IsOnlyRead world.disk w.disk w'.disk
-  by_command words still None is run = untouched run.disk_stays
-  by_command words still (Some command) is run = by_effect command (only_writers words still command is) run
+  pub by_command : (command : Command) → may_write command ≡ false → RunsOrNot world (Some command) cause w w'
+      → IsOnlyRead world.disk w.disk w'.disk
+  by_command command still (inl run) = by_effect command still run
+  by_command command still (inr stops) = untouched stops.disk_stays
+
+  by_none : RunsOrNot world None cause w w' → IsOnlyRead world.disk w.disk w'.disk
+  by_none (inl run) = untouched run.disk_stays
+  by_none (inr stops) = untouched stops.disk_stays
+
+  by_words : (words : List (List ℕ)) → writes_shelf words ≡ false → (command : Option Command)
+      → command_of words ≡ command → RunsOrNot world command cause w w' → IsOnlyRead world.disk w.disk w'.disk
+  by_words words still None is run = by_none run
+  by_words words still (Some command) is run = by_command command (only_writers words still command is) run
+
+  by_alone : (words : List (List ℕ)) → writes_shelf words ≡ false → (command : Option Command)
+      → command_of words ≡ command → RunsOrNot world (alone command) cause w w' → IsOnlyRead world.disk w.disk w'.disk
+  by_alone words still None is run = by_none run
+  by_alone words still (Some (Downlinks line)) is run = by_none run
+  by_alone words still (Some (Intake Decode input workers most)) is run =
+      by_command (Intake Decode input 1 most) (only_writers words still (Intake Decode input workers most) is) run
+  by_alone words still (Some (Intake (Receive mend) input workers most)) is run =
+      let reads = only_writers words still (Intake (Receive mend) input workers most) is in
+      absurd (cc (reads))
+  by_alone words still (Some command) is run = by_command command (only_writers words still command is) run
 
   pub only_reads : (words : List (List ℕ)) → writes_shelf words ≡ false → RunsOrNot world (command_of words) cause w w'
       → IsOnlyRead world.disk w.disk w'.disk
-  only_reads words still (inl run) = by_command words still (command_of words) refl run
-  only_reads words still (inr stops) = untouched stops.disk_stays
+  only_reads words still run = by_words words still (command_of words) refl run
+
+  pub alone_reads : (words : List (List ℕ)) → writes_shelf words ≡ false
+      → RunsOrNot world (alone (command_of words)) cause w w' → IsOnlyRead world.disk w.disk w'.disk
+  alone_reads words still run = by_alone words still (command_of words) refl run

@@ -65,13 +65,19 @@ not_after_both (false ∷ x) (true ∷ y) e n m = absurd m
 not_after_both (true ∷ x) (false ∷ y) e n m = absurd n
 not_after_both (true ∷ x) (true ∷ y) e n m = ap (λ z. true ∷ z) (not_after_both x y (omega arith) n m)
 
-only_one : (line : LineCode) (w : List ℤ) (x y : List Bool) → IsNearestPath line w x → IsNearestPath line w y → x ≡ y
-only_one line w x y p q =
+-- ---- lists of bits by the order of their levels
+-- x has the least price of all lists of its length, and is the first of those that have it
+pub record IsLeast (line : LineCode) (price : List Bool → ℕ) (x : List Bool) : Type 0 where
+  pub least : (y : List Bool) → length y ≡ length x → price x ≤ price y
+  pub first : (y : List Bool) → length y ≡ length x → price y ≡ price x →
+      NotAfter (reverse (path_levels line x)) (reverse (path_levels line y))
+
+-- two lists of which neither is after the other
+pub one_by_order : (line : LineCode) (x y : List Bool) → length y ≡ length x →
+    NotAfter (reverse (path_levels line x)) (reverse (path_levels line y)) →
+    NotAfter (reverse (path_levels line y)) (reverse (path_levels line x)) → x ≡ y
+one_by_order line x y size p q =
     let z = last_marker_level line in
-    let size : length y ≡ length x = omega (arith, p.size, q.size) in
-    let less = p.least y size in
-    let more = q.least x (sym size) in
-    let same : path_cost line w y ≡ path_cost line w x = omega arith in
     let lengths : length (reverse (path_levels line x)) ≡ length (reverse (path_levels line y)) =
     omega (
       arith,
@@ -80,12 +86,29 @@ only_one line w x y p q =
       length-levels line z x,
       length-levels line z y,
     ) in
-    let both =
-    not_after_both (reverse (path_levels line x)) (reverse (path_levels line y)) lengths (p.first y size same)
-    (q.first x (sym size) (sym same)) in
+    let both = not_after_both (reverse (path_levels line x)) (reverse (path_levels line y)) lengths p q in
     let levels_same : path_levels line x ≡ path_levels line y =
     sym (reverse-reverse (path_levels line x)) ∙ ap reverse both ∙ reverse-reverse (path_levels line y) in
     sym (bits_of_levels_of line z x) ∙ ap (bits_of_levels line z) levels_same ∙ bits_of_levels_of line z y
+
+pub only_least : (line : LineCode) (price : List Bool → ℕ) (x y : List Bool) → length y ≡ length x →
+    IsLeast line price x → IsLeast line price y → x ≡ y
+only_least line price x y size p q =
+    let less = p.least y size in
+    let more = q.least x (sym size) in
+    let same : price y ≡ price x = omega arith in
+    one_by_order line x y size (p.first y size same) (q.first x (sym size) (sym same))
+
+-- the least price of a path is that of the nearest one
+pub nearest_of : (line : LineCode) (w : List ℤ) (x : List Bool) → length w ≡ 2 * length x + 12 →
+    IsLeast line (path_cost line w) x → IsNearestPath line w x
+nearest_of line w x size p = record { size = size; least = p.least; first = p.first }
+
+only_one : (line : LineCode) (w : List ℤ) (x y : List Bool) → IsNearestPath line w x → IsNearestPath line w y →
+    x ≡ y
+only_one line w x y p q =
+    only_least line (path_cost line w) x y (omega (arith, p.size, q.size))
+    (record { least = p.least; first = p.first }) (record { least = q.least; first = q.first })
 
 -- the levels of a path made of levels
 levels_back : (line : LineCode) (h : List Bool) → path_levels line (path_of_levels line h) ≡ reverse h
@@ -96,35 +119,77 @@ path_back line y =
     ap (bits_of_levels line (last_marker_level line)) (reverse-reverse (path_levels line y))
     ∙ bits_of_levels_of line (last_marker_level line) y
 
--- the path by name is one
-named : (line : LineCode) (w : List ℤ) (n : ℕ) (h : List Bool) → length w ≡ 2 * n + 12 →
-    IsFirstLeast n (λ y. path_cost line w (path_of_levels line y)) h → IsNearestPath line w (path_of_levels line h)
-named line w n h size f =
-    let z = last_marker_level line in
-    let long : length (path_of_levels line h) ≡ n =
-    length-bits_of_levels line z (reverse h) ∙ length-reverse h ∙ f.size in
+-- the list by name has the least price
+size_named : (line : LineCode) (n : ℕ) (h : List Bool) → length h ≡ n → length (path_of_levels line h) ≡ n
+size_named line n h e = length-bits_of_levels line (last_marker_level line) (reverse h) ∙ length-reverse h ∙ e
+
+named : (line : LineCode) (price : List Bool → ℕ) (n : ℕ) (h : List Bool) →
+    IsFirstLeast n (λ y. price (path_of_levels line y)) h → IsLeast line price (path_of_levels line h)
+named line price n h f =
+    let long = size_named line n h f.size in
     let backwards : (y : List Bool) → length y ≡ length (path_of_levels line h) →
-    length (reverse (path_levels line y)) ≡ n = λ y e. length-reverse (path_levels line y) ∙ length-levels line z y
-    ∙ e ∙ long in
+    length (reverse (path_levels line y)) ≡ n = λ y e. length-reverse (path_levels line y)
+    ∙ length-levels line (last_marker_level line) y ∙ e ∙ long in
     let own : reverse (path_levels line (path_of_levels line h)) ≡ h =
     ap reverse (levels_back line h) ∙ reverse-reverse h in
     record {
-      size = omega (arith, long);
-      least = λ y e. subst (λ x. path_cost line w (path_of_levels line h) ≤ path_cost line w x) (path_back line y)
+      least = λ y e. subst (λ x. price (path_of_levels line h) ≤ price x) (path_back line y)
           (f.least (reverse (path_levels line y)) (backwards y e));
       first = λ y e same. subst (λ x. NotAfter x (reverse (path_levels line y))) (sym own)
-          (f.first (reverse (path_levels line y)) (backwards y e) (ap (path_cost line w) (path_back line y) ∙ same));
+          (f.first (reverse (path_levels line y)) (backwards y e) (ap price (path_back line y) ∙ same));
     }
+
+pub named_least : (line : LineCode) (price : List Bool → ℕ) (n : ℕ) →
+    let x = path_of_levels line (first_least n (λ y. price (path_of_levels line y))) in
+    IsLeast line price x × (length x ≡ n)
+named_least line price n =
+    let f = is_first_least n (λ y. price (path_of_levels line y)) in
+    (named line price n _ f, size_named line n _ f.size)
 
 pub nearest_path_is_one : (line : LineCode) (w : List ℤ) (n : ℕ) → length w ≡ 2 * n + 12 →
     IsNearestPath line w (nearest_path line w)
 unfolding nearest_path
 nearest_path_is_one line w n size =
-    let half : length w / 2 - 6 ≡ n = omega arith in
-    named line w (length w / 2 - 6) _ (omega arith) (is_first_least (length w / 2 - 6)
-    (λ y. path_cost line w (path_of_levels line y)))
+    let found = named_least line (path_cost line w) (length w / 2 - 6) in
+    let long = found.1 in
+    nearest_of line w _ (omega arith) found.0
 
 pub nearest_path_is_the_one : (line : LineCode) (w : List ℤ) (x : List Bool) → IsNearestPath line w x →
     x ≡ nearest_path line w
 nearest_path_is_the_one line w x p =
     only_one line w x (nearest_path line w) p (nearest_path_is_one line w (length x) p.size)
+
+-- ---- a list of no bits is the only one of its length
+no_other : (a b : List Bool) → length a ≡ 0 → length b ≡ 0 → a ≡ b
+no_other [] [] e f = refl
+no_other [] (c ∷ b) e f = absurd (omega arith)
+no_other (c ∷ a) b e f = absurd (omega arith)
+
+none_after : (x : List Bool) → NotAfter x x
+none_after [] = tt
+none_after (false ∷ x) = none_after x
+none_after (true ∷ x) = none_after x
+
+pub none_is_least : (line : LineCode) (price : List Bool → ℕ) (x : List Bool) → length x ≡ 0 → IsLeast line price x
+none_is_least line price x none = record {
+  least = λ y e. let same = ap price (no_other x y none (e ∙ none)) in omega arith;
+  first = λ y e cost. subst (λ z. NotAfter (reverse (path_levels line x)) (reverse (path_levels line z)))
+      (no_other x y none (e ∙ none)) (none_after (reverse (path_levels line x)));
+}
+
+-- ---- the list of least price by name, by what the lists cost
+choice_same : (i j : ℕ) (k l : ℕ) (a b c d : List Bool) → i ≡ j → k ≡ l → a ≡ c → b ≡ d →
+    cond (ltb i k) a b ≡ cond (ltb j l) c d
+choice_same i j k l a b c d p q r s = cc
+
+pub first_least_same : (n : ℕ) (p q : List Bool → ℕ) → ((y : List Bool) → p y ≡ q y) → first_least n p ≡ first_least n q
+unfolding first_least
+first_least_same zero p q same = refl
+first_least_same (suc n) p q same =
+    let ones = first_least_same n (λ x. p (true ∷ x)) (λ x. q (true ∷ x)) (λ x. same (true ∷ x)) in
+    let zeros = first_least_same n (λ x. p (false ∷ x)) (λ x. q (false ∷ x)) (λ x. same (false ∷ x)) in
+    choice_same _ _ _ _ _ _ _ _
+    (same _ ∙ ap (λ x. q (true ∷ x)) ones)
+    (same _ ∙ ap (λ x. q (false ∷ x)) zeros)
+    (ap (λ x. true ∷ x) ones)
+    (ap (λ x. false ∷ x) zeros)

@@ -20,7 +20,7 @@ fn ends(line: LineCode) -> (usize, usize)
 
 /// The state before the last step of the nearest path, from the costs of all states there and those of the last step.
 /// Where both ends cost the same it is that of the level 0.
-pub(crate) fn end_state(line: LineCode, costs: &[u32; 64], last: &[u32; 4]) -> usize
+pub fn end_state(line: LineCode, costs: &[u32; 64], last: &[u32; 4]) -> usize
     requires costs { (s : ℕ) → s < 64 → slice_index costs.now s + STEP_COST < 2 ^ 32 }
     requires last { (m : ℕ) → branch_by last.now m ≤ STEP_COST }
     ensures { result ≡ end_before line (last_one line costs.now last.now) }

@@ -12,7 +12,8 @@
 //! included: among those of equal cost it is the one whose levels are least when read from the last to the first.
 //! `nearest_path` names it, and there is exactly one (`one_nearest_path`). The kernel here is the plain trellis of 64
 //! states, one pass over the window and one way back over a word of decisions for each step. `start_costs`,
-//! `pair_costs`, `decision_word` and `read_bytes` are for another kernel, whose forward pass keeps the same decisions.
+//! `pair_costs`, `decision_word` and `read_bytes` are for another kernel, whose forward pass keeps the same decisions;
+//! `step`, `end_state`, `bit_of`, `bits_back` and `bytes_back` for one with other costs.
 #![tactic(auto)]
 
 mod costs;
@@ -24,5 +25,7 @@ mod way_back;
 
 pub use costs::{STEP_COST, pair_costs};
 pub use decode::{nearest, nearest_bits, one_nearest_path, read_bytes};
+pub use ending::end_state;
 pub use scratch::{MOST_STEPS, TrellisScratch};
-pub use steps::{decision_word, start_costs};
+pub use steps::{FAR, decision_word, start_costs, step};
+pub use way_back::{bit_of, bits_back, bytes_back};

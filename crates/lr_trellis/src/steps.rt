@@ -10,7 +10,7 @@ use crate::scratch::MOST_STEPS;
 use lr_conv::LineCode;
 
 /// More than any path costs: the most in each of its 8,166 steps, and 1.
-const FAR: u32 = STEP_COST * (MOST_STEPS as u32 + 1) + 1;
+pub const FAR: u32 = STEP_COST * (MOST_STEPS as u32 + 1) + 1;
 
 /// The last six levels of the marker, in which a path begins.
 const START: usize = 0b01_1101;
@@ -52,7 +52,7 @@ pub fn decision_word(evens: u64, odds: u64) -> u64
 
 /// One step of all paths: the least cost of a path to each state, and the word of the decisions.
 #[inline(always)]
-fn step(costs: &[u32; 4], old: &[u32; 64], new: &mut [u32; 64]) -> u64
+pub fn step(costs: &[u32; 4], old: &[u32; 64], new: &mut [u32; 64]) -> u64
     requires costs { (m : ℕ) → branch_by costs.now m ≤ STEP_COST }
     requires old { (s : ℕ) → s < 64 → slice_index old.now s + STEP_COST < 2 ^ 32 }
     ensures least { (s : ℕ) → s < 64 → slice_index new.new s ≡

@@ -21,7 +21,7 @@ fn older_state(word: u64, state: usize) -> usize
 
 /// The bit of a state's newest level.
 #[inline(always)]
-fn bit_of(line: LineCode, state: usize) -> bool
+pub fn bit_of(line: LineCode, state: usize) -> bool
     ensures { result ≡ bit_of_level line (is_odd (state / 2)) (is_odd state) }
 {
     let level = state % 2 == 1;
@@ -30,7 +30,7 @@ fn bit_of(line: LineCode, state: usize) -> bool
 }
 
 /// The bits that are read back from a state, down to the step `first`, and the state there.
-pub(crate) fn bits_back(
+pub fn bits_back(
     line: LineCode,
     words: &[u64],
     first: usize,
@@ -163,7 +163,7 @@ const MEETING_STEPS: usize = 144;
 /// The bytes that are read back from a state, and the state before them. The two halves are read at once: the lower one
 /// from a guess, the state to which state 0 leads over some steps. Where the upper half leads to another one, the lower
 /// half is read once more, from there.
-pub(crate) fn bytes_back(line: LineCode, words: &[u64], state: usize, out: &mut [u8]) -> usize
+pub fn bytes_back(line: LineCode, words: &[u64], state: usize, out: &mut [u8]) -> usize
     requires state { state < 64 }
     requires words { 8 * length out.old ≤ length words.now }
     ensures state { result < 64 }

@@ -124,8 +124,8 @@ static BETWEEN: [Case; 5] = [
     ),
 ];
 
-/// After the header a gap is made of what comes behind it.
-static AFTER_THE_HEADER: [Case; 3] = [
+/// After the header a gap is made of what comes after it.
+static AFTER_THE_HEADER: [Case; 5] = [
     Case(
         &[
             Piece(13, 313, 1, 16_382, 'I'),
@@ -152,6 +152,22 @@ static AFTER_THE_HEADER: [Case; 3] = [
         &[Piece(13, 313, 1, 7, 'I'), Piece(13, 313, 2, 9, 'z')],
         16,
         &[],
+    ),
+    // Only the header came, and the next body is of another image: where lines are coded none is made of it.
+    Case(
+        &[Piece(13, 313, 1, 5, 'C'), Piece(13, 313, 0, 60, 'd')],
+        16,
+        &[],
+    ),
+    Case(
+        &[Piece(13, 313, 1, 5, 'I'), Piece(13, 313, 0, 60, 'c')],
+        16,
+        &[
+            (1, Piece(13, 313, 0, 6, '0')),
+            (1, Piece(13, 313, 0, 7, '0')),
+            (1, Piece(13, 313, 0, 8, '0')),
+            (1, Piece(13, 313, 2, 9, '0')),
+        ],
     ),
 ];
 
@@ -223,7 +239,7 @@ static ENDS: [Case; 5] = [
 ];
 
 /// An image gets no more fillers than it may have.
-static FEW: [Case; 4] = [
+static FEW: [Case; 3] = [
     // Two of three are used up, and the next gap of two is too wide; the image is closed, and its later gap stays.
     Case(
         &[
@@ -265,7 +281,11 @@ static FEW: [Case; 4] = [
         0,
         &[],
     ),
-    // A packet that comes twice is as far off as can be, and the image needs three more.
+];
+
+/// A count that goes back closes the image, which needs three more, and none is made.
+static GOING_BACK: [Case; 5] = [
+    // A packet that comes twice.
     Case(
         &[
             Piece(13, 313, 1, 0, 'I'),
@@ -273,8 +293,54 @@ static FEW: [Case; 4] = [
             Piece(13, 313, 0, 1, 'a'),
             Piece(13, 313, 2, 3, 'z'),
         ],
-        2,
+        3,
         &[],
+    ),
+    // By 1,024 at most: with 15,359 missing it is a gap.
+    Case(
+        &[
+            Piece(13, 313, 1, 0, 'I'),
+            Piece(13, 313, 0, 1, 'a'),
+            Piece(13, 313, 0, 15_362, 'b'),
+        ],
+        3,
+        &[],
+    ),
+    Case(
+        &[
+            Piece(13, 313, 1, 0, 'I'),
+            Piece(13, 313, 0, 1, 'a'),
+            Piece(13, 313, 2, 15_362, 'b'),
+        ],
+        3,
+        &[],
+    ),
+    Case(
+        &[
+            Piece(13, 313, 1, 0, 'I'),
+            Piece(13, 313, 0, 1, 'a'),
+            Piece(13, 313, 0, 15_361, 'b'),
+        ],
+        3,
+        &[
+            (2, Piece(13, 313, 0, 2, '0')),
+            (2, Piece(13, 313, 0, 3, '0')),
+            (2, Piece(13, 313, 2, 4, '0')),
+        ],
+    ),
+    // The next file may begin with any count.
+    Case(
+        &[
+            Piece(13, 313, 1, 0, 'I'),
+            Piece(13, 313, 0, 1, 'a'),
+            Piece(13, 313, 3, 1, 'T'),
+        ],
+        3,
+        &[
+            (2, Piece(13, 313, 0, 2, '0')),
+            (2, Piece(13, 313, 0, 3, '0')),
+            (2, Piece(13, 313, 2, 4, '0')),
+        ],
     ),
 ];
 
@@ -379,6 +445,7 @@ fn gaps_of_images_are_filled(rt: HostRuntime) -> Result<(), Fail> {
     hold(alloc, &AFTER_THE_HEADER)?;
     hold(alloc, &ENDS)?;
     hold(alloc, &FEW)?;
+    hold(alloc, &GOING_BACK)?;
     hold(alloc, &SEVERAL)?;
     hold(alloc, &KINDS)
 }

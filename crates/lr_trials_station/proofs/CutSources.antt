@@ -12,12 +12,12 @@ use Rattle.lr_bits.specs.declared.refusals.Failed.{Failed}
 use Rattle.lr_bits.specs.declared.sizes.TheConstants.{FRAME_SYMBOLS}
 use Rattle.lr_conv.proofs.Tails.{tail_size}
 use Rattle.lr_conv.specs.Marker.{tail_of}
-use Rattle.lr_conv.specs.declared.line.LineCode.{LineCode}
+use Rattle.lr_forms.specs.declared.forms.Decoding.{Decoding}
 use Rattle.lr_disk.specs.Pending.{NothingPending}
 use Rattle.lr_disk.specs.declared.disk.Disk.{Ghosts as DiskOf}
 use Rattle.lr_forms.specs.declared.forms.Input.TheVariants.{Symbols}
 use Rattle.lr_frame.proofs.Given.{outcomes_stay}
-use Rattle.lr_frame.specs.Outcomes.{outcome_in, outcomes_of_symbols}
+use Rattle.lr_frame.specs.Outcomes.{redecoded_outcomes}
 use Rattle.lr_io.specs.MemSource.{MayAnswer, MovesOnce, bytes_moved, cut_places, failing_places, faults_of, left_of}
 use Rattle.lr_io.specs.declared.sink.Sink.{Ghosts as SinkOf}
 use Rattle.lr_io.specs.declared.source.MemSource.{MemSource}
@@ -31,6 +31,7 @@ use Rattle.lr_lock.specs.Symbols.{symbols_of}
 use Rattle.lr_lock.specs.declared.frame.Frame.{Frame}
 use Rattle.lr_lock.specs.declared.sizes.TheConstants.{WINDOW_END}
 use Rattle.lr_reading.proofs.Fronts.{All-first}
+use Rattle.lr_reading.specs.Arrivals.{decoded_in}
 use Rattle.lr_reading.specs.Inputs.{outcomes_of_bytes}
 use Rattle.lr_reading.specs.Readers.{HaveCome}
 use Rattle.lr_reading.specs.Reading.{HaveGiven}
@@ -51,9 +52,9 @@ along : (pieces : List (List ℕ)) (s t : MemSource) → HaveGiven mem_source pi
     → (cut_places t ≡ cut_places s) × (bytes_moved t ≡ bytes_moved s + length (concat pieces))
 along [] s t none = (ap cut_places none, omega (arith, ap bytes_moved none))
 along (piece ∷ pieces) s t given =
-    let next : MemSource = given.1.0 in
-    let first : MovesOnce (length piece) s next = given.1.1 in
-    let rest = along pieces next t given.1.3 in
+    let next : MemSource = given.2.0 in
+    let first : MovesOnce (length piece) s next = given.2.1 in
+    let rest = along pieces next t given.2.3 in
     (rest.0 ∙ first.same.cuts, omega (arith, rest.1, first.moved, length-append piece (concat pieces)))
 
 -- a call that ends after a cut began there or later
@@ -69,8 +70,8 @@ begins_after place last now (Err failed) fails cut past = omega (arith, fails.st
 
 -- ---- what has come stays
 
-module _ (line : LineCode) (bytes more : List ℕ) (count : ℕ)
-    (come : HaveCome (Symbols line) (WINDOW_END - FRAME_SYMBOLS) bytes count) where
+module _ (decoding : Decoding) (bytes more : List ℕ) (count : ℕ)
+    (come : HaveCome (Symbols decoding) (WINDOW_END - FRAME_SYMBOLS) bytes count) where
   some : List ℤ
   some = symbols_of bytes
 
@@ -78,23 +79,24 @@ module _ (line : LineCode) (bytes more : List ℕ) (count : ℕ)
   HasCome all frame = place_after_frame frame + (WINDOW_END - FRAME_SYMBOLS) ≤ length all
 
   longer : (rest : List Frame)
-      × (frames_of (tail_of line) (symbols_of (bytes ++ more)) ≡ frames_of (tail_of line) (symbols_of bytes) ++ rest)
+      × (frames_of (tail_of decoding.line) (symbols_of (bytes ++ more))
+      ≡ frames_of (tail_of decoding.line) (symbols_of bytes) ++ rest)
   longer =
-      let stays = prefix_stays (tail_of line) (symbols_of bytes) (symbols_of more) (tail_size line) in
-      (stays.0, ap (λ (l : List ℤ). frames_of (tail_of line) l) (symbols_of-append bytes more) ∙ stays.1)
+      let stays = prefix_stays (tail_of decoding.line) (symbols_of bytes) (symbols_of more) (tail_size decoding.line) in
+      (stays.0, ap (λ (l : List ℤ). frames_of (tail_of decoding.line) l) (symbols_of-append bytes more) ∙ stays.1)
 
-  same_frames : take count (frames_of (tail_of line) (symbols_of (bytes ++ more)))
-      ≡ take count (frames_of (tail_of line) (symbols_of bytes))
+  same_frames : take count (frames_of (tail_of decoding.line) (symbols_of (bytes ++ more)))
+      ≡ take count (frames_of (tail_of decoding.line) (symbols_of bytes))
   same_frames = ap (take count) longer.1
-      ∙ take-append-le count (frames_of (tail_of line) (symbols_of bytes)) longer.0 come.0
+      ∙ take-append-le count (frames_of (tail_of decoding.line) (symbols_of bytes)) longer.0 come.0
 
-  come_on : HaveCome (Symbols line) (WINDOW_END - FRAME_SYMBOLS) (bytes ++ more) count
+  come_on : HaveCome (Symbols decoding) (WINDOW_END - FRAME_SYMBOLS) (bytes ++ more) count
   come_on = (
     omega (
       arith,
       come.0,
       ap (λ (l : List Frame). length l) longer.1,
-      length-append (frames_of (tail_of line) (symbols_of bytes)) longer.0,
+      length-append (frames_of (tail_of decoding.line) (symbols_of bytes)) longer.0,
     ),
     subst (λ (l : List Frame). All
         (λ (frame : Frame). place_after_frame frame + (WINDOW_END - FRAME_SYMBOLS) ≤ length (bytes ++ more)) l)
@@ -102,27 +104,29 @@ module _ (line : LineCode) (bytes more : List ℕ) (count : ℕ)
         (λ k frame within. omega (arith, come.1 k frame within, length-append bytes more)),
   )
 
-  same_outcomes : take count (outcomes_of_bytes (Symbols line) (bytes ++ more))
-      ≡ take count (outcomes_of_bytes (Symbols line) bytes)
-  unfolding outcomes_of_bytes outcomes_of_symbols
+  same_outcomes : take count (outcomes_of_bytes (Symbols decoding) (bytes ++ more))
+      ≡ take count (outcomes_of_bytes (Symbols decoding) bytes)
+  unfolding outcomes_of_bytes redecoded_outcomes
   same_outcomes =
-      let frames : List Frame = take count (frames_of (tail_of line) (symbols_of bytes)) in
-      take-map (outcome_in line (symbols_of (bytes ++ more))) count
-      (frames_of (tail_of line) (symbols_of (bytes ++ more)))
-      ∙ ap (map (outcome_in line (symbols_of (bytes ++ more)))) same_frames
-      ∙ ap (λ (l : List ℤ). map (outcome_in line l) frames) (symbols_of-append bytes more)
-      ∙ outcomes_stay line (symbols_of bytes) (symbols_of more) frames
+      let frames : List Frame = take count (frames_of (tail_of decoding.line) (symbols_of bytes)) in
+      take-map (decoded_in decoding (symbols_of (bytes ++ more))) count
+      (frames_of (tail_of decoding.line) (symbols_of (bytes ++ more)))
+      ∙ ap (map (decoded_in decoding (symbols_of (bytes ++ more)))) same_frames
+      ∙ ap (λ (l : List ℤ). map (decoded_in decoding l) frames) (symbols_of-append bytes more)
+      ∙ outcomes_stay decoding.line decoding.passes (symbols_of bytes) (symbols_of more) frames
       (λ k frame within. omega (arith, come.1 k frame within, length-symbols_of bytes))
-      ∙ sym (take-map (outcome_in line (symbols_of bytes)) count (frames_of (tail_of line) (symbols_of bytes)))
+      ∙ sym (take-map (decoded_in decoding (symbols_of bytes)) count
+      (frames_of (tail_of decoding.line) (symbols_of bytes)))
 
 -- ---- a file's line, from where the source was cut
 
-module _ {D O : Type 0} (disk : DiskOf D) (out : SinkOf O) (line : LineCode) (mend most : ℕ) (s s' : MemSource)
+module _ {D O : Type 0} (disk : DiskOf D) (out : SinkOf O) (decoding : Decoding) (mend most : ℕ) (s s' : MemSource)
     (d d' : D) (o o' : O) (cause : Cause)
-    (run : ReceiveRun (world_of mem_source disk out) (receive_query mend (Symbols line) 1 most) cause (outside s d o)
+    (run : ReceiveRun (world_of mem_source disk out) (receive_query mend (Symbols decoding) 1 most) cause
+    (outside s d o)
     (outside s' d' o')) (fresh : bytes_moved s ≡ 0) (place count : ℕ) (way : Way)
     (cut : Contains (cut_places s) place) (past : place < bytes_moved s')
-    (come : HaveCome (Symbols line) (WINDOW_END - FRAME_SYMBOLS) (take place (left_of s)) count)
+    (come : HaveCome (Symbols decoding) (WINDOW_END - FRAME_SYMBOLS) (take place (left_of s)) count)
     (told : disk.tells d) (is_way : IsWay (disk.contents d) way) (only : NothingPending disk d)
     (tells : out.tells o) where
   abbrev first : List ℕ
@@ -130,7 +134,7 @@ module _ {D O : Type 0} (disk : DiskOf D) (out : SinkOf O) (line : LineCode) (me
 
   pub lines_there : (text : List ℕ) × (out.contents o' ≡ out.contents o
       ++ (shelved_lines (length way.entries)
-      (noted_of_outcomes mend (take count (outcomes_of_bytes (Symbols line) first))) ++ text))
+      (noted_of_outcomes mend (take count (outcomes_of_bytes (Symbols decoding) first))) ++ text))
   lines_there =
       let keeps = run.onto.keeps_up (initial_shelf way (disk.contents d)) told (begun_way way (disk.contents d) is_way)
       (λ none. only) in
@@ -151,13 +155,13 @@ module _ {D O : Type 0} (disk : DiskOf D) (out : SinkOf O) (line : LineCode) (me
       sym (take-append-drop place last.given) ∙ ap (λ (l : List ℕ). l ++ drop place last.given) these in
       let more : List ℕ = drop place last.given in
       let known = last.so count 0 (inl (omega arith))
-      (subst (λ (n : ℕ). HaveCome (Symbols line) (WINDOW_END - FRAME_SYMBOLS) last.given n) (omega arith)
-      (subst (λ (l : List ℕ). HaveCome (Symbols line) (WINDOW_END - FRAME_SYMBOLS) l count) (sym split)
-      (come_on line first more count come))) in
+      (subst (λ (n : ℕ). HaveCome (Symbols decoding) (WINDOW_END - FRAME_SYMBOLS) last.given n) (omega arith)
+      (subst (λ (l : List ℕ). HaveCome (Symbols decoding) (WINDOW_END - FRAME_SYMBOLS) l count) (sym split)
+      (come_on decoding first more count come))) in
       let text = known.told tells in (
         text.0,
         text.1 ∙ ap (λ (l : List Outcome). out.contents o
             ++ (shelved_lines (length way.entries) (noted_of_outcomes mend l) ++ text.0))
-            (ap (λ (l : List ℕ). take count (outcomes_of_bytes (Symbols line) l)) split
-            ∙ same_outcomes line first more count come),
+            (ap (λ (l : List ℕ). take count (outcomes_of_bytes (Symbols decoding) l)) split
+            ∙ same_outcomes decoding first more count come),
       )) keeps.in_time

@@ -1,6 +1,6 @@
 //! Which words are read, and as which command.
-use lr_conv::{LineCode, STANDARD};
-use lr_forms::{Input, Output, UnitForm};
+use lr_conv::{LineCode, Passes, STANDARD};
+use lr_forms::{Decoding, Input, Output, UnitForm};
 use lr_trials_support::{is_text, words_of};
 use lr_words::{Command, FileAction, FrameLines, IntakeAction, ShelfAction, read_words};
 use std::alloc::Global;
@@ -66,11 +66,23 @@ fn g2_name(line: LineCode) -> &'static str {
     if line.inverted { "inverted" } else { "plain" }
 }
 
+fn passes_number(passes: Passes) -> u8 {
+    match passes {
+        Passes::One => 1,
+        Passes::Two => 2,
+        Passes::Three => 3,
+        Passes::Four => 4,
+    }
+}
+
 fn told_input(alloc: Global, input: Input) -> Result<String, Fail> {
     Ok(match input {
-        Input::Symbols(line) => {
-            format!(in alloc; "symbols {} {}", line_name(line), g2_name(line))?
-        }
+        Input::Symbols(Decoding { line, passes }) => format!(in alloc;
+            "symbols {} {}, {} passes",
+            line_name(line),
+            g2_name(line),
+            passes_number(passes)
+        )?,
         Input::Units(form) => String::from_str(alloc, unit_name(form))?,
     })
 }
@@ -170,6 +182,15 @@ const PLAIN_MARKS: LineCode = LineCode {
     marks: true,
     inverted: false,
 };
+
+/// Symbols of a line code in one pass.
+fn in_one_pass(line: LineCode) -> Input {
+    in_passes(line, Passes::One)
+}
+
+fn in_passes(line: LineCode, passes: Passes) -> Input {
+    Input::Symbols(Decoding { line, passes })
+}
 
 const BLOCKS: Input = Input::Units(UnitForm::Blocks);
 
@@ -299,7 +320,7 @@ fn words_on_shelves(alloc: Global) -> Result<(), Fail> {
 }
 
 fn words_of_streams(alloc: Global) -> Result<(), Fail> {
-    let symbols = Input::Symbols(STANDARD);
+    let symbols = in_one_pass(STANDARD);
     are_read(
         alloc,
         &[
@@ -328,18 +349,32 @@ fn words_of_streams(alloc: Global) -> Result<(), Fail> {
             ),
             (
                 "decode --line nrz-m --symbols 9",
-                decode(Input::Symbols(MARKS), 1, 9),
+                decode(in_one_pass(MARKS), 1, 9),
             ),
             (
                 "decode --g2=plain --symbols 9",
-                decode(Input::Symbols(PLAIN), 1, 9),
+                decode(in_one_pass(PLAIN), 1, 9),
             ),
             (
                 "decode --g2 plain --line nrz-m --symbols 9",
-                decode(Input::Symbols(PLAIN_MARKS), 1, 9),
+                decode(in_one_pass(PLAIN_MARKS), 1, 9),
             ),
             ("decode --workers 64 --symbols 9", decode(symbols, 64, 9)),
+            ("decode --passes 1", decode(symbols, 1, MOST)),
+            (
+                "decode --passes 2 --line nrz-m --symbols 9",
+                decode(in_passes(MARKS, Passes::Two), 1, 9),
+            ),
+            ("decode --input blocks --passes 3", decode(BLOCKS, 1, MOST)),
             ("receive", receive(symbols, 1, MOST)),
+            (
+                "receive --passes=3 --symbols 1",
+                receive(in_passes(STANDARD, Passes::Three), 1, 1),
+            ),
+            (
+                "receive --mend 64 --g2 plain --passes 04 --workers 2",
+                mending(64, in_passes(PLAIN, Passes::Four), 2, MOST),
+            ),
             (
                 "receive --input frames --line nrz-m --g2 plain --symbols 1",
                 receive(Input::Units(UnitForm::Frames), 1, 1),

@@ -105,7 +105,7 @@ static NO_COMMAND: [&str; 22] = [
 ];
 
 /// Words of which a value is none.
-static WRONG_VALUES: [&str; 64] = [
+static WRONG_VALUES: [&str; 72] = [
     "downlinks --line plain",
     "repack 0 10",
     "repack 0 0",
@@ -157,6 +157,14 @@ static WRONG_VALUES: [&str; 64] = [
     "receive --mend 1024",
     "receive --mend",
     "decode --mend 1",
+    "decode --passes 0",
+    "decode --passes 5",
+    "decode --passes",
+    "receive --passes=",
+    "receive --passes one",
+    "receive --passes +2",
+    "downlinks --passes 2",
+    "trial 0 1 0 --passes 2",
     "trial 0 1 0 --mend 1",
     "downlinks --mend 1",
     "trial 0 1 0 --workers 0",

@@ -19,6 +19,7 @@ same_given Intake a b same = rw (
   same (codes "workers"),
   same (codes "line"),
   same (codes "g2"),
+  same (codes "passes"),
   same (codes "input"),
   same (codes "symbols"),
 ) refl
@@ -27,6 +28,7 @@ same_given MendedIntake a b same = rw (
   same (codes "workers"),
   same (codes "line"),
   same (codes "g2"),
+  same (codes "passes"),
   same (codes "input"),
   same (codes "symbols"),
 ) refl

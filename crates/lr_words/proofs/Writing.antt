@@ -6,10 +6,11 @@ use Rattle.lr_words.specs.Arguments.{app_of_shape}
 use Rattle.lr_bits.specs.Sizes.{most_u64}
 use Rattle.lr_words.specs.Commands.{command_of, command_shaped, given_by, input_of, may_write, required_number}
 use Rattle.lr_words.specs.Commands.{most_apid, most_image, most_made_frames, most_wrong, writes_shelf, writes_when}
-use Rattle.lr_words.specs.Values.{line_code_given, most_of, output_of, workers_given}
+use Rattle.lr_words.specs.Values.{decoding_given, line_code_given, most_of, output_of, workers_given}
 use Rattle.lr_words.specs.Shapes.{can_write, shape_named}
 use Rattle.lr_words.specs.Words.{argument_value, is_taken}
 use Rattle.lr_conv.specs.declared.line.LineCode.{LineCode}
+use Rattle.lr_forms.specs.declared.forms.Decoding.{Decoding}
 use Rattle.lr_forms.specs.declared.forms.Input.{Input}
 use Rattle.lr_forms.specs.declared.forms.Output.{Output}
 use Rattle.lr_words.specs.declared.command.Command.{Command}
@@ -42,10 +43,10 @@ frames : (lines : FrameLines) (most : Option ℕ) → Reads (option_map (λ n. F
 frames lines None = tt
 frames lines (Some n) = refl
 
-decode : (workers : Option ℕ) (line : Option LineCode) (input : LineCode → Option Input) (most : Option ℕ)
+decode : (workers : Option ℕ) (decoding : Option Decoding) (input : Decoding → Option Input) (most : Option ℕ)
     → Reads (option_and_then (λ w. option_and_then (λ l. option_and_then (λ i. option_map (λ n. Intake Decode i w n)
-    most) (input l)) line) workers)
-decode None line input most = tt
+    most) (input l)) decoding) workers)
+decode None decoding input most = tt
 decode (Some w) None input most = tt
 decode (Some w) (Some l) input most = by (input l) most where
   by : (i : Option Input) (most : Option ℕ)
@@ -91,8 +92,9 @@ by_shape (Nothing action) none value = refl
 by_shape (Number action) none value = on_file action none (required_number value (codes "number") 0 most_u64)
 by_shape (Symbols lines) none value = frames lines (most_of (value (codes "symbols")))
 by_shape IntakeWords none value =
-    decode (workers_given (value (codes "workers"))) (line_code_given (value (codes "line")) (value (codes "g2")))
-    (λ line. input_of Decode line (value (codes "input"))) (most_of (value (codes "symbols")))
+    decode (workers_given (value (codes "workers"))) (decoding_given (value (codes "line")) (value (codes "g2"))
+    (value (codes "passes"))) (λ decoding. input_of Decode decoding (value (codes "input")))
+    (most_of (value (codes "symbols")))
 by_shape MendedIntake none value = absurd (cc (none))
 by_shape Line none value = absurd (cc (none))
 by_shape Workers none value = render (workers_given (value (codes "workers")))

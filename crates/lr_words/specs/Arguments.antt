@@ -31,10 +31,10 @@ number_app name = app_with (new_app name) (place (codes "number") ∷ [])
 unfoldable pub symbols_app : Text → App
 symbols_app name = app_with (new_app name) (option (codes "symbols") ∷ [])
 
--- `[--input FORM] [--workers W] [--symbols N] [--line CODE] [--g2 G2]`
+-- `[--input FORM] [--workers W] [--symbols N] [--line CODE] [--g2 G2] [--passes N]`
 unfoldable pub intake_app : Text → App
 intake_app name = app_with (new_app name) (option (codes "input") ∷ option (codes "workers")
-    ∷ option (codes "symbols") ∷ option (codes "line") ∷ option (codes "g2") ∷ [])
+    ∷ option (codes "symbols") ∷ option (codes "line") ∷ option (codes "g2") ∷ option (codes "passes") ∷ [])
 
 -- the same, and `[--mend N]`
 unfoldable pub mended_app : Text → App

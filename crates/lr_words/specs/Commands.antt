@@ -3,17 +3,16 @@ use Rattle.std.specs.Prelude.{◌-◌, ◌≡◌, ◌⊎◌, ◌≤◌, ◌^◌,
 use Rattle.std.specs.Prelude.{Some, None, IsSome, if◌then◌else◌, option_map, option_and_then, codes}
 use Rattle.clap.specs.Words.{Text}
 use Rattle.lr_bits.specs.Sizes.{most_u64}
-use Rattle.lr_conv.specs.declared.line.LineCode.{LineCode}
 use Rattle.lr_shelf_format.specs.Header.{least_capacity, most_capacity}
 use Rattle.lr_shelf_format.specs.Header.{IsCapacity}
+use Rattle.lr_forms.specs.declared.forms.Decoding.{Decoding}
 use Rattle.lr_forms.specs.declared.forms.Input.{Input}
-use Rattle.lr_forms.specs.declared.forms.TheConstants.{MOST_WORKERS}
 use Rattle.lr_words.specs.Arguments.{app_of_shape}
 use Rattle.lr_words.specs.Numbers.{number_given}
 use Rattle.lr_words.specs.Shapes.{shape_named, can_write, runs_alone}
-use Rattle.lr_mend.specs.declared.mender.TheConstants.{MOST_FILLERS}
-use Rattle.lr_words.specs.Values.{coded_input, any_input, output_of, mend_given, most_of, workers_given}
-use Rattle.lr_words.specs.Values.{line_code_given}
+use Rattle.lr_mend.specs.Mending.{most_fillers}
+use Rattle.lr_words.specs.Values.{coded_input, any_input, output_of, mend_given, most_of, most_workers, workers_given}
+use Rattle.lr_words.specs.Values.{decoding_given, line_code_given}
 use Rattle.lr_words.specs.Words.{is_taken, argument_value}
 use Rattle.lr_words.specs.declared.shape.Shape.{Shape}
 use Rattle.lr_words.specs.declared.shape.Shape.TheVariants.{Capacity, Nothing, Number, Symbols}
@@ -47,7 +46,7 @@ abbrev pub most_tried_frames : ℕ
 most_tried_frames = 1024
 
 -- `decode` reads no frames
-abbrev pub input_of : IntakeAction → LineCode → Option Text → Option Input
+abbrev pub input_of : IntakeAction → Decoding → Option Text → Option Input
 input_of Decode = coded_input
 input_of (Receive mend) = any_input
 
@@ -61,14 +60,15 @@ block_of n =
 abbrev pub required_number : (Text → Option Text) → Text → ℕ → ℕ → Option ℕ
 required_number value id low high = number_given low high (value id)
 
--- The work on a stream. `--line` and `--g2` are read in each form of it, and say something of symbols alone.
+-- The work on a stream. `--line`, `--g2` and `--passes` are read in each form of it, and say something of symbols
+-- alone.
 abbrev pub intake_given : IntakeAction → (Text → Option Text) → Option Command
 intake_given action value =
-    option_and_then (λ w. option_and_then (λ line. option_and_then (λ input.
+    option_and_then (λ w. option_and_then (λ decoding. option_and_then (λ input.
     option_map (λ n. Intake action input w n)
     (most_of (value (codes "symbols"))))
-    (input_of action line (value (codes "input"))))
-    (line_code_given (value (codes "line")) (value (codes "g2"))))
+    (input_of action decoding (value (codes "input"))))
+    (decoding_given (value (codes "line")) (value (codes "g2")) (value (codes "passes"))))
     (workers_given (value (codes "workers")))
 
 -- The command of words that look like this, where each argument has this value.
@@ -164,12 +164,12 @@ OnlyWritersMayWrite = (words : List Text) → writes_shelf words ≡ false
 
 -- this many may work on windows, the caller among them
 abbrev pub IsWorkerCount : ℕ → Type 0
-IsWorkerCount workers = (1 ≤ workers) × (workers ≤ MOST_WORKERS)
+IsWorkerCount workers = (1 ≤ workers) × (workers ≤ most_workers)
 
 -- how many fillers an image may have at most
 abbrev pub MayHaveFillers : IntakeAction → Type 0
 MayHaveFillers Decode = Unit {0}
-MayHaveFillers (Receive mend) = mend ≤ MOST_FILLERS
+MayHaveFillers (Receive mend) = mend ≤ most_fillers
 
 -- The numbers of a command are in their ranges.
 abbrev pub IsInRange : Option Command → Type 0

@@ -1,31 +1,33 @@
 -- The values of the options that several commands have, and what stands where an option isn't given.
-use Rattle.std.specs.Prelude.{◌^◌, ℕ, Bool, true, false, Option, Some, None, codes, if◌then◌else◌}
+use Rattle.std.specs.Prelude.{◌^◌, ◌==◌, ℕ, Bool, true, false, Option, Some, None, codes, if◌then◌else◌}
 use Rattle.std.specs.Prelude.{option_map, option_and_then}
 use Rattle.std.specs.Str.{bytes_eq}
 use Rattle.clap.specs.Words.{Text}
 use Rattle.lr_conv.specs.declared.line.LineCode.{LineCode}
-use Rattle.lr_forms.specs.declared.forms.TheConstants.{MOST_WORKERS}
+use Rattle.lr_conv.specs.declared.passes.Passes.{Passes}
+use Rattle.lr_conv.specs.declared.passes.Passes.TheVariants.{One, Two, Three, Four}
+use Rattle.lr_forms.specs.declared.forms.Decoding.{Decoding}
 use Rattle.lr_forms.specs.declared.forms.Input.{Input}
 use Rattle.lr_forms.specs.declared.forms.Input.TheVariants.{Symbols, Units}
 use Rattle.lr_forms.specs.declared.forms.UnitForm.TheVariants.{Blocks, Frames}
 use Rattle.lr_forms.specs.declared.forms.Output.{Output}
 use Rattle.lr_forms.specs.declared.forms.Output.TheVariants.{Symbols as AsSymbols, Units as AsUnits}
-use Rattle.lr_mend.specs.declared.mender.TheConstants.{MOST_FILLERS}
-use Rattle.lr_words.specs.Numbers.{number_between, number_or}
+use Rattle.lr_mend.specs.Mending.{most_fillers}
+use Rattle.lr_words.specs.Numbers.{number_between, number_in_text, number_or}
 
--- `--input` of `decode`; of symbols the line code is told by other options
-abbrev pub coded_input : LineCode → Option Text → Option Input
-coded_input line None = Some (Symbols line)
-coded_input line (Some text) =
-    if bytes_eq text (codes "symbols") then Some (Symbols line)
+-- `--input` of `decode`; how symbols are decoded is told by other options
+abbrev pub coded_input : Decoding → Option Text → Option Input
+coded_input decoding None = Some (Symbols decoding)
+coded_input decoding (Some text) =
+    if bytes_eq text (codes "symbols") then Some (Symbols decoding)
     else if bytes_eq text (codes "blocks") then Some (Units Blocks)
     else None
 
 -- `--input` of `receive`
-abbrev pub any_input : LineCode → Option Text → Option Input
-any_input line None = Some (Symbols line)
-any_input line (Some text) =
-    if bytes_eq text (codes "symbols") then Some (Symbols line)
+abbrev pub any_input : Decoding → Option Text → Option Input
+any_input decoding None = Some (Symbols decoding)
+any_input decoding (Some text) =
+    if bytes_eq text (codes "symbols") then Some (Symbols decoding)
     else if bytes_eq text (codes "blocks") then Some (Units Blocks)
     else if bytes_eq text (codes "frames") then Some (Units Frames)
     else None
@@ -61,6 +63,22 @@ line_code_given line g2 =
     option_and_then (λ marks. option_map (λ inverted. record { marks = marks; inverted = inverted })
     (inverted_of g2)) (marks_given line)
 
+-- `--passes`: how many passes are made over the window of a frame
+abbrev pub passes_of : ℕ → Option Passes
+passes_of n =
+    if n == 1 then Some One else if n == 2 then Some Two else if n == 3 then Some Three
+    else if n == 4 then Some Four else None
+
+abbrev pub passes_given : Option Text → Option Passes
+passes_given None = Some One
+passes_given (Some text) = option_and_then passes_of (number_in_text text)
+
+-- how symbols are decoded, by `--line`, `--g2` and `--passes`
+abbrev pub decoding_given : Option Text → Option Text → Option Text → Option Decoding
+decoding_given line g2 passes =
+    option_and_then (λ code. option_map (λ n. record { line = code; passes = n }) (passes_given passes))
+    (line_code_given line g2)
+
 -- the greatest number of `--symbols`, which is also what stands where the option isn't given
 abbrev pub most_symbols : ℕ
 most_symbols = 2 ^ 40
@@ -69,11 +87,15 @@ most_symbols = 2 ^ 40
 abbrev pub most_of : Option Text → Option ℕ
 most_of = number_or 0 most_symbols most_symbols
 
+-- the greatest number of `--workers`
+abbrev pub most_workers : ℕ
+most_workers = 64
+
 -- `--workers`: how many work on windows
 abbrev pub workers_given : Option Text → Option ℕ
-workers_given = number_or 1 MOST_WORKERS 1
+workers_given = number_or 1 most_workers 1
 
 -- `--mend`: how many fillers an image may have; where it isn't given, none is mended
 abbrev pub mend_given : Option Text → Option ℕ
 mend_given None = Some 0
-mend_given (Some text) = number_between 1 MOST_FILLERS text
+mend_given (Some text) = number_between 1 most_fillers text

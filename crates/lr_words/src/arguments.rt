@@ -75,7 +75,8 @@ fn intake_parser<'a>(alloc: Global, name: &'a str) -> Result<Parser<'a>, AllocEr
     let parser = with_arg(parser, option(alloc, "workers"));
     let parser = with_arg(parser, option(alloc, "symbols"));
     let parser = with_arg(parser, option(alloc, "line"));
-    with_arg(parser, option(alloc, "g2"))
+    let parser = with_arg(parser, option(alloc, "g2"));
+    with_arg(parser, option(alloc, "passes"))
 }
 
 fn mended_parser<'a>(alloc: Global, name: &'a str) -> Result<Parser<'a>, AllocError>

@@ -21,11 +21,10 @@ use crate::command::{Command, FileAction, FrameLines, IntakeAction};
 use crate::numbers::number_given;
 use crate::shape::Shape;
 use crate::values::{
-    MOST_WRONG, any_input, coded_input, line_code, mend, most, output_form, workers,
+    MOST_WRONG, any_input, coded_input, decoding, line_code, mend, most, output_form, workers,
 };
 use clap::ArgMatches;
-use lr_conv::LineCode;
-use lr_forms::Input;
+use lr_forms::{Decoding, Input};
 use lr_shelf_format::{LEAST_CAPACITY, MOST_CAPACITY};
 
 /// The greatest application identifier of a packet that isn't an idle one.
@@ -41,13 +40,13 @@ const MOST_MADE_FRAMES: u64 = 65_536;
 const MOST_TRIED_FRAMES: u64 = 1024;
 
 impl IntakeAction {
-    /// What is read, where symbols are of this line code.
-    fn input(self, matches: &ArgMatches, line: LineCode) -> Option<Input>
-        ensures { result ≡ input_of self line (first_value (found_of matches.now) (codes "input")) }
+    /// What is read, where symbols are decoded so.
+    fn input(self, matches: &ArgMatches, decoding: Decoding) -> Option<Input>
+        ensures { result ≡ input_of self decoding (first_value (found_of matches.now) (codes "input")) }
     {
         match self {
-            IntakeAction::Decode => coded_input(matches, line),
-            IntakeAction::Receive { mend: _ } => any_input(matches, line),
+            IntakeAction::Decode => coded_input(matches, decoding),
+            IntakeAction::Receive { mend: _ } => any_input(matches, decoding),
         }
     }
 }
@@ -83,8 +82,8 @@ fn with_action(action: IntakeAction, matches: &ArgMatches) -> Option<Command>
     ensures range { IsInRange result }
 {
     let workers = workers(matches)?;
-    let line = line_code(matches)?;
-    let input = action.input(matches, line)?;
+    let decoding = decoding(matches)?;
+    let input = action.input(matches, decoding)?;
     let most = most(matches)?;
     Some(Command::Intake {
         action,

@@ -9,7 +9,7 @@ use clap::ArgMatches;
 const MOST_DIGITS: usize = 20;
 
 /// The number that a text of 1 to 20 decimal digits gives, where it is below 2^64.
-fn number_of(text: &str) -> Option<u64>
+pub(crate) fn number_of(text: &str) -> Option<u64>
     ensures { result ≡ number_in_text text.now }
 {
     let bytes = text.as_bytes();

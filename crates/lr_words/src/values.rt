@@ -1,7 +1,7 @@
 //! The values of the options that several commands have.
 ghost use Rattle.std.specs.Prelude.{◌≡◌, ◌≤◌, IfSome, codes};
 ghost use Rattle.clap.specs.Words.{first_value, found_of};
-ghost use Rattle.lr_mend.specs.declared.mender.TheConstants.{MOST_FILLERS as most_fillers};
+ghost use Rattle.lr_mend.specs.Mending.{most_fillers};
 ghost use Rattle.lr_words.specs.Values.{
   coded_input,
   any_input,
@@ -9,43 +9,46 @@ ghost use Rattle.lr_words.specs.Values.{
   marks_given,
   inverted_of,
   line_code_given,
+  passes_of,
+  passes_given,
+  decoding_given,
   mend_given,
   most_of,
   workers_given,
 };
 
-use crate::numbers::{number_between, number_or};
+use crate::numbers::{number_between, number_of, number_or};
 use clap::ArgMatches;
-use lr_conv::LineCode;
-use lr_forms::{Input, MOST_BYTES, MOST_WORKERS, Output, UnitForm};
+use lr_conv::{LineCode, Passes};
+use lr_forms::{Decoding, Input, MOST_BYTES, MOST_WORKERS, Output, UnitForm};
 use lr_mend::MOST_FILLERS;
 
 /// The most wrong bytes in each word of a test stream.
 pub(crate) const MOST_WRONG: u64 = 16;
 
-/// What `decode` reads, where symbols are of this line code.
-pub(crate) fn coded_input(matches: &ArgMatches, line: LineCode) -> Option<Input>
-    ensures { result ≡ coded_input line (first_value (found_of matches.now) (codes "input")) }
+/// What `decode` reads, where symbols are decoded so.
+pub(crate) fn coded_input(matches: &ArgMatches, decoding: Decoding) -> Option<Input>
+    ensures { result ≡ coded_input decoding (first_value (found_of matches.now) (codes "input")) }
 {
     let Some(text) = matches.get_str("input") else {
-        return Some(Input::Symbols(line));
+        return Some(Input::Symbols(decoding));
     };
     match text {
-        "symbols" => Some(Input::Symbols(line)),
+        "symbols" => Some(Input::Symbols(decoding)),
         "blocks" => Some(Input::Units(UnitForm::Blocks)),
         _ => None,
     }
 }
 
-/// What `receive` reads, where symbols are of this line code.
-pub(crate) fn any_input(matches: &ArgMatches, line: LineCode) -> Option<Input>
-    ensures { result ≡ any_input line (first_value (found_of matches.now) (codes "input")) }
+/// What `receive` reads, where symbols are decoded so.
+pub(crate) fn any_input(matches: &ArgMatches, decoding: Decoding) -> Option<Input>
+    ensures { result ≡ any_input decoding (first_value (found_of matches.now) (codes "input")) }
 {
     let Some(text) = matches.get_str("input") else {
-        return Some(Input::Symbols(line));
+        return Some(Input::Symbols(decoding));
     };
     match text {
-        "symbols" => Some(Input::Symbols(line)),
+        "symbols" => Some(Input::Symbols(decoding)),
         "blocks" => Some(Input::Units(UnitForm::Blocks)),
         "frames" => Some(Input::Units(UnitForm::Frames)),
         _ => None,
@@ -103,6 +106,39 @@ pub(crate) fn line_code(matches: &ArgMatches) -> Option<LineCode>
     let marks = marks(matches)?;
     let inverted = inversion(matches)?;
     Some(LineCode { marks, inverted })
+}
+
+/// This number of passes, if a window may be decoded so often.
+fn passes_of(number: u64) -> Option<Passes>
+    ensures { result ≡ passes_of number }
+{
+    match number {
+        1 => Some(Passes::One),
+        2 => Some(Passes::Two),
+        3 => Some(Passes::Three),
+        4 => Some(Passes::Four),
+        _ => None,
+    }
+}
+
+/// How many passes are made over the window of a frame.
+fn passes(matches: &ArgMatches) -> Option<Passes>
+    ensures { result ≡ passes_given (first_value (found_of matches.now) (codes "passes")) }
+{
+    let Some(text) = matches.get_str("passes") else {
+        return Some(Passes::One);
+    };
+    passes_of(number_of(text)?)
+}
+
+/// How symbols are decoded.
+pub(crate) fn decoding(matches: &ArgMatches) -> Option<Decoding>
+    ensures { result ≡ decoding_given (first_value (found_of matches.now) (codes "line"))
+        (first_value (found_of matches.now) (codes "g2")) (first_value (found_of matches.now) (codes "passes")) }
+{
+    let line = line_code(matches)?;
+    let passes = passes(matches)?;
+    Some(Decoding { line, passes })
 }
 
 /// The most bytes that are taken.

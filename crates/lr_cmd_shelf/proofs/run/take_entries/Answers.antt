@@ -3,17 +3,25 @@ use Rattle.std.proofs.lemmas.Result.{err_from_is_err_and}
 use Rattle.lr_bits.proofs.Telling.{tells_both, tells_still}
 use Rattle.lr_disk.proofs.Moments.{only_read_joined, only_read_yet}
 use Rattle.lr_shelf.specs.Kept.{KeptShelf, kept_by}
-use Rattle.lr_cmd_shelf.proofs.Texts.{on_err, on_noted, on_ok, on_sure}
-use Rattle.lr_cmd_shelf.proofs.Taking.{so_first, so_more, not_allowed, entry_stopped, last_taken, last_stopped}
-use Rattle.lr_cmd_shelf.proofs.Taking.{entry_undone, gathered_all, text_undone}
+use Rattle.lr_causes.specs.Outside.{outlets, outlets_of}
+use Rattle.lr_causes.specs.declared.cause.Cause.TheVariants.{Refused}
+use Rattle.lr_causes.specs.declared.cause.Refusal.TheVariants.{NoSuchFile}
+use Rattle.lr_cmd_shelf.specs.Queries.{query_on}
+use Rattle.lr_cmd_shelf.proofs.Texts.{on_noted, on_sure}
+use Rattle.lr_cmd_shelf.proofs.Taking.{so_first, so_more, not_allowed, entry_stopped, last_gathered, last_stopped}
+use Rattle.lr_cmd_shelf.proofs.Taking.{entry_undone, stops_gathers, text_undone}
 use Rattle.lr_cmd_shelf.proofs.run.take_entries.Goals as goal
 
 pub returns-in_default-clause-stops : goal.returns-in_default-clause-stops
 returns-in_default-clause-stops g c =
-    not_allowed g.D.Disk g.O.Sink (g.C.ReadsEntries.query c.args.command.now) (kept_by c.args.shelf.now).way
+    let query = g.C.ReadsEntries.query c.args.command.now in
+    stops_gathers (outlets_of g.D.Disk g.O.Sink) (query_on query (kept_by c.args.shelf.now).way)
+    (outlets c.args.disk.now c.args.out.now) (outlets c.args.disk.now c.args.out.now)
+    (g.C.ReadsEntries.gathers c.args.command.now) (Refused (NoSuchFile c.len-count.result)) (λ done. done)
+    (not_allowed g.D.Disk g.O.Sink query (kept_by c.args.shelf.now).way
     c.args.disk.now c.args.out.now g.met.D.Disk.only_now
     (g.met.D.Disk.reads_none c.args.disk.now) c.len-count.result c.len-count.ensures
-    (sym c.range.ensures.is ∙ c.in_default.is)
+    (sym c.range.ensures.is ∙ c.in_default.is))
 
 pub loop-number-init : goal.loop-number-init
 loop-number-init g c = record {
@@ -46,11 +54,16 @@ returns-in_err-entry-clause-stops g c =
     let way = ap (λ (k : KeptShelf). k.way) inv.kept in
     let stops = rw way at (e.stops inv.so_far.read inv.so_far.gathered) in
     rw (p.1, p.2)
+    (stops_gathers (outlets_of g.D.Disk g.O.Sink) (query_on query (kept_by c.args.shelf.now).way)
+    (outlets c.args.disk.now c.args.out.now) (outlets c.entry.new.disk c.entry.new.out)
+    (g.C.ReadsEntries.gathers c.args.command.now) c.in_err-entry.field-0.0
+    (entry_undone g.D.Disk g.O.Sink query (kept_by c.args.shelf.now).way inv.so_far.read c.loop-number.number
+    c.loop-number.disk c.entry.new.disk c.loop-number.out c.entry.new.out c.in_err-entry.field-0.0 stops)
     (entry_stopped g.D.Disk g.O.Sink query _ _ _ _ allowed _ _ _ _ c.entry.new.out inv.so_far inv.tell.told
     inv.tell.untold
     inv.reads inv.disk_count g.met.D.Disk.reads_on c.entry.new.disk c.loop-number-test.true e.reads.tell.told
     e.reads.tell.untold e.reads.only_read
-    c.in_err-entry.field-0.0 stops (e.counted inv.so_far.read inv.so_far.gathered))
+    c.in_err-entry.field-0.0 stops (e.counted inv.so_far.read inv.so_far.gathered)))
 
 pub loop-number-preserved : goal.loop-number-preserved
 loop-number-preserved g c =
@@ -83,8 +96,10 @@ returns-clause-takes g c =
     let way = ap (λ (k : KeptShelf). k.way) inv.kept in
     let takes = rw way at (c.last.ensures.takes inv.so_far.read inv.so_far.gathered) in
     on_noted c.last.result
-    (last_taken g.D.Disk g.O.Sink query _ _ _ _ allowed _ _ _ _ c.last.new.out inv.so_far inv.tell.told inv.tell.untold
-    inv.reads inv.disk_count (c.loop-number.auto.number-end c.in-Some.ensures.ordered) c.loop-number-test.false)
+    (λ puts. last_gathered g.D.Disk g.O.Sink query _ _ _ _ allowed _ _ _ _ c.last.new.out inv.so_far inv.tell.told
+    inv.tell.untold
+    inv.reads inv.disk_count (c.loop-number.auto.number-end c.in-Some.ensures.ordered) c.loop-number-test.false puts
+    (g.C.ReadsEntries.gathers c.args.command.now) c.loop-number.gathered inv.so_far.gathered)
     takes (c.last.ensures.tells inv.so_far.read inv.so_far.gathered)
 
 pub returns-clause-stops : goal.returns-clause-stops
@@ -96,39 +111,13 @@ returns-clause-stops g c =
     let stops = simp way at (c.last.ensures.stops inv.so_far.read inv.so_far.gathered) in
     let sure = rw way at (c.last.ensures.sure inv.so_far.read inv.so_far.gathered) in
     on_sure c.last.result
+    (λ cause stops some. stops_gathers (outlets_of g.D.Disk g.O.Sink) (query_on query (kept_by c.args.shelf.now).way)
+    (outlets c.args.disk.now c.args.out.now) (outlets c.loop-number.disk c.last.new.out)
+    (g.C.ReadsEntries.gathers c.args.command.now) cause
+    (text_undone g.D.Disk g.O.Sink (query.last (kept_by c.args.shelf.now).way inv.so_far.read) c.loop-number.out
+    c.last.new.out cause stops)
     (last_stopped g.D.Disk g.O.Sink query _ _ _ _ allowed _ _ _ _ c.last.new.out inv.so_far inv.tell.told
     inv.tell.untold
-    inv.reads inv.disk_count (c.loop-number.auto.number-end c.in-Some.ensures.ordered) c.loop-number-test.false)
+    inv.reads inv.disk_count (c.loop-number.auto.number-end c.in-Some.ensures.ordered) c.loop-number-test.false cause
+    stops some))
     stops sure
-
-pub returns-in_err-entry-clause-undone : goal.returns-in_err-entry-clause-undone
-returns-in_err-entry-clause-undone g c =
-    let inv = c.loop-number.invariant in
-    let p = err_from_is_err_and c.from_residual.result c.from_residual.ensures.1 in
-    let query = g.C.ReadsEntries.query c.args.command.now in
-    let e = c.in_err-entry.ensures in
-    rw (p.1, p.2)
-    (entry_undone g.D.Disk g.O.Sink query (kept_by c.loop-number.shelf).way inv.so_far.read c.loop-number.number
-    c.loop-number.disk c.entry.new.disk c.loop-number.out c.entry.new.out c.in_err-entry.field-0.0
-    (e.stops inv.so_far.read inv.so_far.gathered))
-
-pub returns-clause-undone : goal.returns-clause-undone
-returns-clause-undone g c =
-    let inv = c.loop-number.invariant in
-    let query = g.C.ReadsEntries.query c.args.command.now in
-    on_err c.last.result
-    (text_undone g.D.Disk g.O.Sink (query.last (kept_by c.loop-number.shelf).way inv.so_far.read) c.loop-number.out
-    c.last.new.out) (c.last.ensures.stops inv.so_far.read inv.so_far.gathered)
-
-pub returns-clause-gathers : goal.returns-clause-gathers
-returns-clause-gathers g c =
-    let inv = c.loop-number.invariant in
-    let query = g.C.ReadsEntries.query c.args.command.now in
-    let allowed = ap query.range (sym c.len-count.ensures) ∙ sym c.range.ensures.is ∙ c.in-Some.is in
-    let way = ap (λ (k : KeptShelf). k.way) inv.kept in
-    on_ok c.last.result
-    (λ puts. gathered_all g.D.Disk g.O.Sink query _ _ _ _ allowed _ _ _ _ c.last.new.out inv.so_far
-    inv.tell.told inv.tell.untold
-    inv.reads inv.disk_count (c.loop-number.auto.number-end c.in-Some.ensures.ordered) c.loop-number-test.false puts
-    (g.C.ReadsEntries.gathers c.args.command.now) c.loop-number.gathered inv.so_far.gathered)
-    (rw way at (c.last.ensures.takes inv.so_far.read inv.so_far.gathered))

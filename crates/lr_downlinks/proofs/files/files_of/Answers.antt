@@ -13,10 +13,14 @@ windows-init c = record {
       (decoded_none c.args.line c.args.stream.now c.in_ok-lock.lock c.new-layers.result c.in_ok-lock.ensures.stands
       c.in_ok-lock.ensures.line c.in_ok-lock.ensures.unfinished c.new-layers.ensures);
   window_line = c.in_ok-window.ensures.line ∙ sym c.in_ok-lock.ensures.line;
+  one_pass = c.in_ok-window.ensures.passes;
 }
 
 pub show_next-requires-clause-line : goal.show_next-requires-clause-line
 show_next-requires-clause-line c = c.windows.invariant.window_line
+
+pub show_next-requires-clause-passes : goal.show_next-requires-clause-passes
+show_next-requires-clause-passes c = c.windows.invariant.one_pass
 
 pub show_next-requires-clause-is_fed : goal.show_next-requires-clause-is_fed
 show_next-requires-clause-is_fed c =
@@ -41,6 +45,7 @@ windows-preserved c =
             c.in_ok-push_outcome.ensures.files 0 outcomes stand,
           ));
       window_line = c.show_next.ensures.line;
+      one_pass = c.show_next.ensures.passes;
     }
 
 pub windows-smaller : goal.windows-smaller

@@ -9,7 +9,7 @@ returns-in-Window-clause-shows c = λ line given is.
     window_shown line c.args.stream.now c.args.fed given c.steps.taken c.steps.lock on c.next_window.new.self
     c.next_window.ensures.line c.next_window.ensures.finished c.next_window.new.window
     (c.in-Window.ensures.answers (symbols_of (take c.steps.taken c.args.stream.now)) given on.is_fed.stands)
-    (c.in-Window.ensures.shorter refl)
+    (c.in-Window.ensures.shorter refl) (c.next_window.ensures.window_passes ∙ c.steps.invariant.one_pass)
 
 pub returns-in-End-clause-shows : goal.returns-in-End-clause-shows
 returns-in-End-clause-shows c = λ line given is.
@@ -55,5 +55,6 @@ steps-preserved c =
       standing = (is.0, is.1, here.is_fed);
       window_line = c.next_window.ensures.window_line ∙ c.steps.invariant.window_line ∙ is.2.line_is
           ∙ sym here.is_fed.line_is;
+      one_pass = c.next_window.ensures.window_passes ∙ c.steps.invariant.one_pass;
       fewer = omega (arith, fewer, c.steps.invariant.fewer);
     }

@@ -14,6 +14,7 @@ returns c = record {
   gives_err = search rules;
   stations = c.station_alone-status.ensures.stations;
   unknown = c.station_alone-status.ensures.unknown;
+  is_status = search rules;
   says = refl;
   tells = refl;
   keeps = refl;

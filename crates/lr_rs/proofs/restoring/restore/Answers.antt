@@ -72,7 +72,7 @@ returns-then-changed-gt-MOST_ERRORS-clause-none c c' r =
     let is = same to.After-is_codeword-2 (found to.After-fill_equations) c' r in
     absurd (omega (
       arith,
-      c.distance_of-changed.ensures,
+      c.distance_of-changed.ensures.value,
       ap (distance WORD_BYTES c.args.word.now) is,
       r.near,
       c.if-changed-gt-MOST_ERRORS.true,
@@ -82,8 +82,8 @@ pub returns-clause-restored : goal.returns-clause-restored
 returns-clause-restored c = record {
   is_word = c.is_codeword-2.ensures.word;
   is_codeword = c.is_codeword-2.ensures.codeword.0 (cc);
-  near = omega (arith, c.distance_of-changed.ensures, c.if-changed-gt-MOST_ERRORS.false);
+  near = omega (arith, c.distance_of-changed.ensures.value, c.if-changed-gt-MOST_ERRORS.false);
 }
 
 pub returns-clause-changed : goal.returns-clause-changed
-returns-clause-changed c = c.distance_of-changed.ensures
+returns-clause-changed c = c.distance_of-changed.ensures.value

@@ -12,4 +12,5 @@ returns c =
     let next_1 = c.with_arg-parser.ensures _ _ first c.option-2.ensures.rule in
     let next_2 = c.with_arg-parser-2.ensures _ _ next_1 c.option-3.ensures.rule in
     let next_3 = c.with_arg-parser-3.ensures _ _ next_2 c.option-4.ensures.rule in
-    c.with_arg.ensures _ _ next_3 c.option-5.ensures.rule
+    let next_4 = c.with_arg-parser-4.ensures _ _ next_3 c.option-5.ensures.rule in
+    c.with_arg.ensures _ _ next_4 c.option-6.ensures.rule

@@ -1,6 +1,7 @@
 use Rattle.std.proofs.Common.{◌≡◌, ◌+◌, ◌≤◌, true, false, Some, List, ℤ, drop, refl, sym, ◌∙◌, ap, subst, arith}
 use Rattle.lr_bits.specs.declared.sizes.TheConstants.{FRAME_SYMBOLS}
 use Rattle.lr_conv.specs.declared.line.LineCode.{LineCode}
+use Rattle.lr_conv.specs.declared.passes.Passes.{Passes}
 use Rattle.lr_lock.specs.Standing.{LockState, LockStandsFor}
 use Rattle.lr_lock.specs.Steps.{Answers, GivesWindow}
 use Rattle.lr_lock.specs.Windows.{WindowView, window_of}
@@ -30,13 +31,17 @@ returns-in-Some-clause-answers c fed given h =
     let from = c.kept_symbols-in-Some.ensures
     ∙ dropped c.self.inside.symbols.items c.self.inside.passed c.find_next-found.result.passed
     (c.self.inside.passed + c.find_next-found.result.passed) refl in
-    let made : LineCode → List ℤ → WindowView =
-    λ (k : LineCode) (s : List ℤ). record {
+    let made_for : Passes → LineCode → List ℤ → WindowView =
+    λ (p : Passes) (k : LineCode) (s : List ℤ). record {
       position = c.in-Some.frame.place;
       positive = c.in-Some.frame.positive;
       line = k;
+      passes = p;
       symbols = window_of s 0 c.in-Some.frame.positive;
     } in
+    let made = made_for c.args.window.now.passes in
+    let same_passes : c.args.window.now.passes ≡ c.show.new.self.passes =
+    sym (ap (λ (w : WindowView). w.passes) c.show.ensures) in
     let same_line : c.args.window.now.line ≡ c.self.inside.line =
     c.requires ∙ sym (ap (λ (l : LockState). l.line) c.self.view_is) in
     let later : LockState =
@@ -51,7 +56,9 @@ returns-in-Some-clause-answers c fed given h =
     c.self.view_is (given_window _ later fed given c.find_next-found.result.passed c.if-self.needed opened refl refl
     c.in-Some.frame c.show.new.self seen big sure refl left refl
     (c.show.ensures ∙ ap (made c.args.window.now.line) from ∙ ap (λ (k : LineCode). made k (drop
-    c.find_next-found.result.passed (drop c.self.inside.passed c.self.inside.symbols.items))) same_line))
+    c.find_next-found.result.passed (drop c.self.inside.passed c.self.inside.symbols.items))) same_line
+    ∙ ap (λ (p : Passes). made_for p c.self.inside.line (drop c.find_next-found.result.passed
+    (drop c.self.inside.passed c.self.inside.symbols.items))) same_passes))
 
 pub returns-after-self-2-clause-answers : goal.returns-after-self-2-clause-answers
 returns-after-self-2-clause-answers c fed given h =

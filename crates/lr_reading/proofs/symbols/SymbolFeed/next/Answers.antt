@@ -7,21 +7,22 @@ use Rattle.lr_reading.proofs.Feeding.{window_given, more_wanted, all_given, join
 use Rattle.lr_reading.proofs.symbols.SymbolFeed.next.Goals as goal
 
 pub returns-in-Window-clause-feeds : goal.returns-in-Window-clause-feeds
-returns-in-Window-clause-feeds g c = λ line so_far so.
-    let on = subst (λ (n : FeedState). FeedsOn (symbols_from g.S.Source line) (c.args.under_way ≡ true)
+returns-in-Window-clause-feeds g c = λ decoding so_far passes so.
+    let on = subst (λ (n : FeedState). FeedsOn (symbols_from g.S.Source decoding) (c.args.under_way ≡ true)
     (at_source so_far c.args.source.now) (at_source n c.steps.source)) (sym c.self.view_is)
-    (c.steps.invariant.feeds line so_far so) in
-    window_given (symbols_from g.S.Source line) (c.args.under_way ≡ true) on c.next_window.new.self
+    (c.steps.invariant.feeds decoding so_far so) in
+    window_given (symbols_from g.S.Source decoding) (c.args.under_way ≡ true) on c.next_window.new.self
     c.next_window.new.window c.next_window.ensures.line c.next_window.ensures.finished
     (c.in-Window.ensures.answers (symbols_of on.all) so_far.given on.so_far.stands)
     (c.in-Window.ensures.shorter refl) (search rules)
+    (c.next_window.ensures.window_passes ∙ c.steps.invariant.window_passes ∙ passes)
 
 pub returns-in-End-clause-feeds : goal.returns-in-End-clause-feeds
-returns-in-End-clause-feeds g c = λ line so_far so.
-    let on = subst (λ (n : FeedState). FeedsOn (symbols_from g.S.Source line) (c.args.under_way ≡ true)
+returns-in-End-clause-feeds g c = λ decoding so_far passes so.
+    let on = subst (λ (n : FeedState). FeedsOn (symbols_from g.S.Source decoding) (c.args.under_way ≡ true)
     (at_source so_far c.args.source.now) (at_source n c.steps.source)) (sym c.self.view_is)
-    (c.steps.invariant.feeds line so_far so) in
-    all_given (symbols_from g.S.Source line) (c.args.under_way ≡ true) on c.next_window.new.self
+    (c.steps.invariant.feeds decoding so_far so) in
+    all_given (symbols_from g.S.Source decoding) (c.args.under_way ≡ true) on c.next_window.new.self
     c.next_window.new.window c.next_window.ensures.line c.next_window.ensures.finished
     (c.in-End.ensures.answers (symbols_of on.all) so_far.given on.so_far.stands)
     c.next_window.ensures.passes
@@ -29,16 +30,17 @@ returns-in-End-clause-feeds g c = λ line so_far so.
 pub steps-preserved : goal.steps-preserved
 steps-preserved g c =
     record {
-      feeds = λ line so_far so.
-          let on = subst (λ (n : FeedState). FeedsOn (symbols_from g.S.Source line) (c.args.under_way ≡ true)
+      feeds = λ decoding so_far so.
+          let on = subst (λ (n : FeedState). FeedsOn (symbols_from g.S.Source decoding) (c.args.under_way ≡ true)
           (at_source so_far c.args.source.now) (at_source n c.steps.source)) (sym c.self.view_is)
-          (c.steps.invariant.feeds line so_far so) in
-          let wanted = more_wanted (symbols_from g.S.Source line) (c.args.under_way ≡ true) on c.next_window.new.self
+          (c.steps.invariant.feeds decoding so_far so) in
+          let wanted = more_wanted (symbols_from g.S.Source decoding) (c.args.under_way ≡ true) on
+          c.next_window.new.self
           c.next_window.new.window
           c.next_window.ensures.line c.next_window.ensures.finished
           (c.in-More.ensures.answers (symbols_of on.all) so_far.given on.so_far.stands) c.next_window.ensures.passes in
-          joined (symbols_from g.S.Source line) (c.args.under_way ≡ true)
-          (c.more.ensures.feeds line (record so_far { bytes = wanted.all }) c.args.under_way wanted.so_far
+          joined (symbols_from g.S.Source decoding) (c.args.under_way ≡ true)
+          (c.more.ensures.feeds decoding (record so_far { bytes = wanted.all }) c.args.under_way wanted.so_far
           (c.holds_back.ensures.calm c.if-holds_back.false)) wanted.looks wanted.near
           wanted.same;
       standing = c.more.ensures.standing (
@@ -49,6 +51,7 @@ steps-preserved g c =
       line = c.more.ensures.line ∙ c.next_window.ensures.line
           ∙ ap (λ (n : FeedState). n.lock.line) c.self.view_is ∙ c.steps.invariant.line;
       window_line = c.next_window.ensures.window_line ∙ c.steps.invariant.window_line;
+      window_passes = c.next_window.ensures.window_passes ∙ c.steps.invariant.window_passes;
       most = c.more.ensures.most ∙ ap (λ (n : FeedState). n.most) c.self.view_is ∙ c.steps.invariant.most;
       fewer = omega (
         arith,
@@ -73,11 +76,11 @@ more-requires-clause-looked g c =
     omega (arith, wants.room)
 
 pub returns-then-holds_back-clause-feeds : goal.returns-then-holds_back-clause-feeds
-returns-then-holds_back-clause-feeds g c = λ line so_far so.
-    let on = subst (λ (n : FeedState). FeedsOn (symbols_from g.S.Source line) (c.args.under_way ≡ true)
+returns-then-holds_back-clause-feeds g c = λ decoding so_far passes so.
+    let on = subst (λ (n : FeedState). FeedsOn (symbols_from g.S.Source decoding) (c.args.under_way ≡ true)
     (at_source so_far c.args.source.now) (at_source n c.steps.source)) (sym c.self.view_is)
-    (c.steps.invariant.feeds line so_far so) in (
-      more_wanted (symbols_from g.S.Source line) (c.args.under_way ≡ true) on c.next_window.new.self
+    (c.steps.invariant.feeds decoding so_far so) in (
+      more_wanted (symbols_from g.S.Source decoding) (c.args.under_way ≡ true) on c.next_window.new.self
           c.next_window.new.window c.next_window.ensures.line c.next_window.ensures.finished
           (c.in-More.ensures.answers (symbols_of on.all) so_far.given on.so_far.stands) c.next_window.ensures.passes,
       c.holds_back.ensures.waits c.if-holds_back.true,

@@ -1,5 +1,0 @@
-use Rattle.lr_addition_laws.proofs.Repacking.{repacks_have_outcomes}
-use Rattle.lr_addition_laws.proofs.laws.repacks_have_outcomes.Goals as goal
-
-pub returns : goal.returns
-returns c = repacks_have_outcomes

@@ -1,0 +1,10 @@
+pub mod Additions
+pub mod MarkedHeaders
+pub mod MarkedImages
+pub mod MarkedPlaces
+pub mod MendableImages
+pub mod OnlyImages
+pub mod Repacks
+pub mod SamePixels
+pub mod SentImages
+pub mod WholeFiles

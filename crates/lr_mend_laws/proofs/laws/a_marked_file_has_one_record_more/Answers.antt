@@ -1,5 +1,0 @@
-use Rattle.lr_mend_laws.proofs.MarkedHeaders.{marked_headers}
-use Rattle.lr_mend_laws.proofs.laws.a_marked_file_has_one_record_more.Goals as goal
-
-pub returns : goal.returns
-returns c = marked_headers

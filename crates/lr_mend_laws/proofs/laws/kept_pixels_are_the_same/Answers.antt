@@ -1,5 +1,0 @@
-use Rattle.lr_mend_laws.proofs.SamePixels.{kept_pixels}
-use Rattle.lr_mend_laws.proofs.laws.kept_pixels_are_the_same.Goals as goal
-
-pub returns : goal.returns
-returns c = kept_pixels

@@ -1,5 +1,0 @@
-use Rattle.lr_mend_laws.proofs.OnlyImages.{only_images}
-use Rattle.lr_mend_laws.proofs.laws.only_images_have_fillers.Goals as goal
-
-pub returns : goal.returns
-returns c = only_images

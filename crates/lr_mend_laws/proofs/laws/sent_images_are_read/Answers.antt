@@ -1,5 +1,0 @@
-use Rattle.lr_mend_laws.proofs.SentImages.{sent_images}
-use Rattle.lr_mend_laws.proofs.laws.sent_images_are_read.Goals as goal
-
-pub returns : goal.returns
-returns c = sent_images

@@ -1,0 +1,5 @@
+pub mod Agreeing
+pub mod First
+pub mod FourWords
+pub mod Rounds
+pub mod Staying
