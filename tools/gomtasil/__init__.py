@@ -1,2 +1,2 @@
-"""What comes after the shelf: files, pictures, texts, a page, and a station's state. `gomtasil --help` has the
+"""What is done with received files: extracting, drawing, a page, and a station's health. `gomtasil --help` has the
 commands."""

@@ -1,10 +1,12 @@
-"""Takes what is inside each file off a shelf, as `follow` takes files, with the same options. A text becomes a .txt in
-UTF-8, without its binary header; JPEG, GIF and PNG become files of that ending, other images a .png. A zip with one
-file becomes this file, one with more a folder; one that has more than 256 files, more than 64 MiB when unpacked, or
-more than 200 times its own size, or that can't be read, stays a .zip. Other data becomes a .bin, and what can't be
-opened the whole file, as .lrit. What was taken is kept in FOLDER/.contents.
+"""Extracts the contents of each file on a shelf. It has all the options of `follow`. A text becomes a UTF-8 .txt
+without its binary header; JPEG, GIF and PNG images keep their form, and other images become .png. A zip with one file
+becomes that file, and a zip with several becomes a folder. It stays a .zip if it has more than 256 files, unpacks to
+more than 64 MiB or 200 times its size, or can't be read. Other data becomes a .bin, and a file that can't be opened
+stays whole, as .lrit. With --latest the newest text of each heading and centre is also
+FOLDER/latest/HEADING-CENTRE.txt, such as latest/FZNT01-KWBC.txt. What was extracted is recorded in FOLDER/.contents.
 """
 
+from . import bulletins
 from . import folder as folders
 from . import images, program, texts
 from .shelf import StoredFile
@@ -13,7 +15,7 @@ MOST_MEMBER_CHARACTERS = 40  # of a member's name that joins the name of its zip
 
 
 def product_of(path: str, file: StoredFile) -> folders.Product:
-    """What a file becomes."""
+    """Returns what is extracted from a file."""
     what = f"file {file.number} of {path}"
     if not file.header.is_open:
         return whole(file)
@@ -27,11 +29,15 @@ def product_of(path: str, file: StoredFile) -> folders.Product:
     if len(files) > 1:
         return folders.Product("", files)
     ((name, data),) = files.items()
-    return folders.Product(name if name.startswith(".") else "-" + name[-MOST_MEMBER_CHARACTERS:], data)
+    found = bulletins.headings_of(file)
+    heading = bulletins.key_of(found[0]) if found else ""
+    return folders.Product(
+        name if name.startswith(".") else "-" + name[-MOST_MEMBER_CHARACTERS:], data, heading=heading
+    )
 
 
 def whole(file: StoredFile) -> folders.Product:
-    """The file as it is, where nothing in it can be opened."""
+    """Returns the file as it is, if nothing in it can be opened."""
     return folders.Product(folders.WHOLE_ENDING, file.proper, False)
 
 

@@ -1,118 +1,150 @@
-"""The station within a program of Python's: the library that packaging/library.sh makes, by ctypes. `run` runs a
-command over bytes, and `receive` takes symbols from a source as they come, onto a shelf in memory or in a file.
+"""The station within a Python program. `open` opens a shelf's file, or makes it; `run` and `receive` work on bytes.
 
-Several calls may run at once on several threads: the library holds nothing between two of them, and Python's lock is
-free while one works.
+    with embedded.open("my.shelf", create=100_000_000) as shelf, open("recording", "rb") as source:
+        done = shelf.receive(source, ["--line", "nrz-m", "--g2", "plain"], on_file=print)
+        earth = shelf.image(0)
+
+Several calls may run at once on several threads, each with a shelf of its own: Python's lock is free while one works.
+A call that may write a shelf which another call or another process writes raises ShelfBusy.
 """
 
 from __future__ import annotations
 
-import ctypes
+import contextlib
+import errno
+import fcntl
+import io
 import os
+import re
+import threading
 from collections.abc import Callable, Iterator, Sequence
-from pathlib import Path
-from typing import BinaryIO, NamedTuple, Protocol
+from types import TracebackType
+from typing import Any, BinaryIO, NamedTuple, Self
 
-NAME = "liblritstation.so.1"
-VARIABLE = "LRITSTATION_LIBRARY"  # may name the library, or the folder that it is in
-NO_MEMORY, NO_TEXT, NO_ROOM = 256, 257, 258  # answers that are no status
-DISK_FAILED, OUTPUT_FAILED = 4, 5
-ERR_ROOM = 4096
-FIRST_ROOM = 1 << 20
-MOST_ROOM = 1 << 40
-ROOM_A_CALL = 256  # of a shelf's bytes: as many calls of it are allowed
-PIECE_BYTES = 65536  # that a source is asked for at most
-FAILED = -1
-STANDARD_OUTPUT = 1
+from .library import FIRST_ROOM, Buffer, Host, Source, Storage, as_bytes, library
+from .library import Answer as Answer
+from .library import EmbeddedError as EmbeddedError
 
-
-class EmbeddedError(Exception):
-    """The library isn't there, or a call of it can't be made."""
+WRITERS = {"init", "receive", "downlinks", "discard", "repack", "trial"}
+RECEIPT = re.compile(r"shelved (\d+) vc (\d+) apid (\d+) counter (\d+) bytes (\d+) packets (\d+)(?: mended (\d+))?")
+FILE = re.compile(
+    r"file (\d+) vc (\d+) apid (\d+) counter (\d+) bytes (\d+) packets (\d+) declared (\d+) real (\d+) (same|differs)"
+    r" type (\d+) frames (\d+) (\d+) corrected (\d+)"
+)
+PGM = re.compile(rb"P5\n(\d+) (\d+)\n(\d+)\n")
+ONE_BYTE = 255  # the greatest value of a pixel of one byte
 
 
-class Answer(NamedTuple):
-    """What a command over bytes left."""
-
-    status: int
-    out: bytes
-    err: str  # the line that says why it ended
-    shelf: bytes
+class ShelfBusy(EmbeddedError):
+    """Another call, or another process, writes the shelf."""
 
 
-class Received(NamedTuple):
-    """What `receive` left: the shelf has the files."""
+class CommandError(EmbeddedError):
+    """A command ended with another status than 0; docs/FORMATS.md has them. What it did before stands."""
 
-    status: int
-    last: str  # the last line that was put
-    err: str
-
-
-class Source(Protocol):
-    """Where symbols come from, such as a file that is open for reading."""
-
-    def read(self, most: int, /) -> bytes | None:
-        """At most `most` bytes; none at the end."""
+    def __init__(self, status: int, line: str):
+        super().__init__(line or f"status {status}")
+        self.status = status
 
 
-# ---- the library's own forms
+class WordsRefused(CommandError):
+    """The words give no command, or a number is out of its range."""
 
 
-class Counts(ctypes.Structure):
-    """How many bytes a call put into each of its rooms."""
-
-    _fields_ = [("out", ctypes.c_uint64), ("err", ctypes.c_uint64), ("shelf", ctypes.c_uint64)]
+class NotAShelf(CommandError):
+    """There is no shelf, or it breaks off."""
 
 
-SIGNED, UNSIGNED, PLACE, SIZE = ctypes.c_int64, ctypes.c_uint64, ctypes.c_void_p, ctypes.c_size_t
-DEVICES = {
-    "take": ctypes.CFUNCTYPE(SIGNED, PLACE, PLACE, SIZE),
-    "put": ctypes.CFUNCTYPE(SIGNED, PLACE, ctypes.c_uint32, PLACE, SIZE),
-    "length": ctypes.CFUNCTYPE(SIGNED, PLACE),
-    "read": ctypes.CFUNCTYPE(SIGNED, PLACE, UNSIGNED, PLACE, SIZE),
-    "write": ctypes.CFUNCTYPE(SIGNED, PLACE, UNSIGNED, PLACE, SIZE),
-    "cut": ctypes.CFUNCTYPE(SIGNED, PLACE, UNSIGNED),
-    "sync": ctypes.CFUNCTYPE(SIGNED, PLACE),
+class NoSuchFile(CommandError):
+    """The shelf has fewer files."""
+
+
+class NoImage(CommandError):
+    """The file has no image, or its segments don't fit together."""
+
+
+class ShelfFull(CommandError):
+    """The next file would end past the shelf's capacity."""
+
+
+class BadChecksum(CommandError):
+    """The bytes of a file aren't those that were stored."""
+
+
+class Discarded(CommandError):
+    """The file is discarded."""
+
+
+KINDS: dict[int, type[CommandError]] = {
+    2: WordsRefused,
+    6: NotAShelf,
+    7: NoSuchFile,
+    8: NoImage,
+    10: ShelfFull,
+    12: BadChecksum,
+    13: Discarded,
 }
 
 
-class Devices(ctypes.Structure):
-    """The seven functions of a caller, as packaging/lritstation.h has them."""
+class Receipt(NamedTuple):
+    """A file that stands on the shelf."""
 
-    _fields_ = [("context", PLACE), *DEVICES.items()]
-
-
-def folders() -> Iterator[Path]:
-    """Where the library may be."""
-    named = os.environ.get(VARIABLE)
-    if named:
-        yield Path(named)
-        return
-    here = Path(__file__).resolve()
-    yield here.parents[3] / "lib" / "gomtasil" / "library"  # (of a package)
-    yield here.parents[2] / "out" / "library"  # (of a checkout)
+    number: int
+    vc: int
+    apid: int
+    counter: int
+    bytes: int
+    packets: int
+    mended: int  # how many of its packets are fillers
 
 
-def path() -> Path:
-    """The library. EmbeddedError where there is none."""
-    looked = [it if it.is_file() else it / NAME for it in folders()]
-    found = next((it for it in looked if it.is_file()), None)
-    if not found:
-        raise EmbeddedError(f"the library isn't there: {' or '.join(map(str, looked))}; packaging/library.sh makes it")
-    return found
+class File(NamedTuple):
+    """A row of `list`."""
+
+    number: int
+    vc: int
+    apid: int
+    counter: int
+    bytes: int
+    packets: int
+    declared: int
+    real: int
+    is_same: bool
+    type: int
+    first_frame: int
+    last_frame: int
+    corrected: int
 
 
-def text_of(words: Sequence[str]) -> bytes:
-    """The words in lines. EmbeddedError where one has a line end itself."""
-    if not words or any("\n" in it for it in words):
-        raise EmbeddedError("there is no word, or one has a line end")
-    return "\n".join(words).encode("utf-8")
+class Image(NamedTuple):
+    """An image: its pixels line by line, of one byte each, or of two, high byte first, where `most` is above 255."""
+
+    rows: int
+    columns: int
+    most: int
+    data: bytes
+
+    def array(self) -> Any:
+        """The pixels as numpy's array of rows and columns."""
+        from numpy import frombuffer
+
+        return frombuffer(self.data, ">u2" if self.most > ONE_BYTE else "u1").reshape(self.rows, self.columns)
+
+
+class Received(NamedTuple):
+    """What `receive` left."""
+
+    status: int
+    last: str  # the last line, with the counts
+    err: str
+    receipts: tuple[Receipt, ...]  # none where `on_file` took them
 
 
 # ---- shelves
 
 
 class MemoryShelf:
-    """A shelf in an array of bytes, which changes in its place."""
+    """A shelf in an array of bytes, which changes in place. `sync` does nothing."""
 
     def __init__(self, data: bytearray):
         self.data = data
@@ -135,20 +167,27 @@ class MemoryShelf:
 
 
 class FileShelf:
-    """A shelf in a file that is open for reading and writing. `sync` waits until the disk has it."""
+    """A shelf in a file, by its descriptor. `sync` waits until the disk has it."""
 
-    def __init__(self, file: BinaryIO):
-        self.descriptor = file.fileno()
+    def __init__(self, descriptor: int):
+        self.descriptor = descriptor
 
     def length(self) -> int:
         return os.fstat(self.descriptor).st_size
 
     def read(self, place: int, most: int) -> bytes:
-        return os.pread(self.descriptor, most, place)
+        # (a short answer would be taken for the shelf's end)
+        parts = []
+        while most and (part := os.pread(self.descriptor, most, place)):
+            parts.append(part)
+            place, most = place + len(part), most - len(part)
+        return b"".join(parts)
 
     def write(self, place: int, piece: bytes) -> None:
         while piece:
             count = os.pwrite(self.descriptor, piece, place)
+            if not count:
+                raise OSError(errno.EIO, "the disk took no byte")
             piece, place = piece[count:], place + count
 
     def cut(self, length: int) -> None:
@@ -158,147 +197,209 @@ class FileShelf:
         os.fsync(self.descriptor)
 
 
-class Host:
-    """The devices of one call. What a device raises ends the call, and is raised again after it."""
+_written: set[object] = set()  # the shelves that calls of this process write
+_guard = threading.Lock()
 
-    def __init__(self, source: Source, shelf: MemoryShelf | FileShelf, told: Callable[[str], object]):
-        self.source, self.shelf, self.told = source, shelf, told
-        self.fault: BaseException | None = None
-        self.rest = self.last = self.err = ""
-        self.kept = {name: kind(self.guarded(getattr(self, name))) for name, kind in DEVICES.items()}
-        self.devices = Devices(None, *self.kept.values())
 
-    def guarded(self, work: Callable[..., int | None]) -> Callable[..., int]:
-        def call(_: object, *words: int) -> int:
-            try:
-                return work(*words) or 0
-            except BaseException as fault:  # (it may not leave a function that C calls)
-                self.fault = self.fault or fault
-                return FAILED
+@contextlib.contextmanager
+def held(key: object, descriptor: int | None) -> Iterator[None]:
+    """Holds a shelf for a call that may write it: within this process by its key, and against other processes by the
+    advisory lock that the program takes too. ShelfBusy where it is held."""
+    with _guard:
+        if key in _written:
+            raise ShelfBusy("another call writes this shelf")
+        _written.add(key)
+    try:
+        if descriptor is None:
+            yield
+            return
+        try:
+            fcntl.flock(descriptor, fcntl.LOCK_EX | fcntl.LOCK_NB)
+        except BlockingIOError:
+            raise ShelfBusy("another process writes this shelf") from None
+        try:
+            yield
+        finally:
+            fcntl.flock(descriptor, fcntl.LOCK_UN)
+    finally:
+        with _guard:
+            _written.discard(key)
 
-        return call
 
-    def filled(self, into: int, part: bytes, most: int) -> int:
-        # (of what is no bytes a view can't be had)
-        data = memoryview(part).tobytes()
-        if len(data) > most:
-            raise EmbeddedError(f"a device gave {len(data)} bytes where {most} were asked for")
-        ctypes.memmove(into, data, len(data))
-        return len(data)
+@contextlib.contextmanager
+def storage_of(shelf: bytearray | BinaryIO | int, writes: bool) -> Iterator[Storage]:
+    """The storage of a shelf that is given as an array, an open file or a descriptor, held where the call may write."""
+    if isinstance(shelf, bytearray):
+        with held(id(shelf), None) if writes else contextlib.nullcontext():
+            yield MemoryShelf(shelf)
+        return
+    if not isinstance(shelf, int):
+        shelf.flush()  # (so that no earlier write of the caller comes later)
+        shelf = shelf.fileno()
+    about = os.fstat(shelf)
+    with held((about.st_dev, about.st_ino), shelf) if writes else contextlib.nullcontext():
+        yield FileShelf(shelf)
 
-    def take(self, into: int, most: int) -> int:
-        return self.filled(into, self.source.read(min(most, PIECE_BYTES)) or b"", most)
 
-    def put(self, output: int, piece: int, count: int) -> int:
-        text = ctypes.string_at(piece, count).decode("utf-8", "replace")
-        if output != STANDARD_OUTPUT:
-            self.err += text
-            return count
-        *lines, self.rest = (self.rest + text).split("\n")
+# ---- receiving
+
+
+class Lines:
+    """The lines that `receive` prints, as they come."""
+
+    def __init__(self, on_file: Callable[[Receipt], object] | None):
+        self.receipts: list[Receipt] = []
+        self.on_file = on_file or self.receipts.append
+        self.rest = self.last = ""
+
+    def take(self, data: bytes) -> None:
+        *lines, self.rest = (self.rest + data.decode("utf-8", "replace")).split("\n")
         for line in lines:
             self.last = line
-            self.told(line)
-        return count
-
-    def length(self) -> int:
-        return self.shelf.length()
-
-    def read(self, place: int, into: int, most: int) -> int:
-        return self.filled(into, self.shelf.read(place, most), most)
-
-    def write(self, place: int, piece: int, count: int) -> None:
-        self.shelf.write(place, ctypes.string_at(piece, count))
-
-    def cut(self, length: int) -> None:
-        self.shelf.cut(length)
-
-    def sync(self) -> None:
-        self.shelf.sync()
+            found = RECEIPT.fullmatch(line)
+            if found:
+                self.on_file(Receipt(*(int(it or 0) for it in found.groups())))
 
 
-# ---- calls
+class Interrupted:
+    """A source that ends once the event is set."""
+
+    def __init__(self, source: Source, event: threading.Event):
+        self.take, self.event = getattr(source, "read1", source.read), event
+
+    def read(self, most: int) -> bytes | None:
+        return b"" if self.event.is_set() else self.take(most)
 
 
-class Library:
-    """The library that is loaded."""
-
-    def __init__(self, where: str | os.PathLike[str] | None = None):
-        try:
-            self.functions = ctypes.CDLL(str(where or path()))
-            self.lr_run, self.lr_run_over = self.functions.lr_run, self.functions.lr_run_over
-        except (OSError, AttributeError) as fault:
-            raise EmbeddedError(f"the library can't be loaded: {fault}") from None
-        given, room = [ctypes.c_char_p, SIZE], [PLACE, SIZE]
-        self.lr_run.argtypes = [*given * 3, UNSIGNED, *room * 3, ctypes.POINTER(Counts)]
-        self.lr_run_over.argtypes = [ctypes.POINTER(Devices), *given]
-        self.lr_run.restype = self.lr_run_over.restype = ctypes.c_uint32
-
-    def run_once(self, text: bytes, data: bytes, shelf: bytes, out_room: int, shelf_room: int) -> Answer:
-        """One call with rooms of these sizes. Its status may be one of the three answers that are none."""
-        out, err, kept = (ctypes.create_string_buffer(max(1, it)) for it in (out_room, ERR_ROOM, shelf_room))
-        counts = Counts()
-        given = [it for part in (text, data, shelf) for it in (part, len(part))]
-        rooms = [it for pair in ((out, out_room), (err, ERR_ROOM), (kept, shelf_room)) for it in pair]
-        status = self.lr_run(*given, shelf_room // ROOM_A_CALL + ROOM_A_CALL, *rooms, counts)
-        if status >= NO_MEMORY:
-            return Answer(status, b"", "", shelf)
-        sizes = (out, counts.out), (err, counts.err), (kept, counts.shelf)
-        said, told, left = (ctypes.string_at(it, size) for it, size in sizes)
-        return Answer(status, said, told.decode("utf-8", "replace").rstrip("\n"), left)
-
-    def run(self, words: Sequence[str], data: bytes = b"", shelf: bytes = b"", room: int = FIRST_ROOM) -> Answer:
-        """Runs a command over bytes. Where a room fills up it is run again from the same bytes, with twice of each.
-        MemoryError where memory was refused."""
-        text = text_of(words)
-        out_room, shelf_room = room, max(room, len(shelf))
-        while True:
-            answer = self.run_once(text, data, shelf, out_room, shelf_room)
-            if answer.status == NO_MEMORY:
-                raise MemoryError("the library got no memory")
-            if answer.status not in (DISK_FAILED, OUTPUT_FAILED, NO_ROOM) or out_room > MOST_ROOM:
-                return answer
-            out_room, shelf_room = 2 * out_room, 2 * shelf_room
-
-    def receive(
-        self,
-        source: Source,
-        shelf: bytearray | BinaryIO,
-        options: Sequence[str] = (),
-        told: Callable[[str], object] = lambda line: None,
-    ) -> Received:
-        """Puts the files of a source's symbols onto a shelf, as `lritstation SHELF receive OPTIONS` does. `told` hears
-        each line once its file stands on the shelf. What the source, the shelf or `told` raises ends the call, and is
-        raised after it; the shelf has then what was received before."""
-        text = text_of(["receive", *options])
-        host = Host(source, MemoryShelf(shelf) if isinstance(shelf, bytearray) else FileShelf(shelf), told)
-        status = self.lr_run_over(host.devices, text, len(text))
-        if host.fault:
-            raise host.fault
-        if status == NO_MEMORY:
-            raise MemoryError("the library got no memory")
-        return Received(status, host.last, host.err.rstrip("\n"))
-
-
-_loaded: list[Library] = []
-
-
-def library() -> Library:
-    """The library, which is loaded once."""
-    if not _loaded:
-        _loaded.append(Library())
-    return _loaded[0]
-
-
-def run(words: Sequence[str], data: bytes = b"", shelf: bytes = b"", room: int = FIRST_ROOM) -> Answer:
-    """`Library.run` of the library that is found."""
-    return library().run(words, data, shelf, room)
+def checked(status: int, line: str) -> None:
+    """Raises the error of a status, but for 0."""
+    if status:
+        raise KINDS.get(status, CommandError)(status, line)
 
 
 def receive(
     source: Source,
-    shelf: bytearray | BinaryIO,
+    shelf: bytearray | BinaryIO | int,
     options: Sequence[str] = (),
-    told: Callable[[str], object] = lambda line: None,
+    *,
+    on_file: Callable[[Receipt], object] | None = None,
+    interrupt: threading.Event | None = None,
+    check: bool = False,
 ) -> Received:
-    """`Library.receive` of the library that is found."""
-    return library().receive(source, shelf, options, told)
+    """Receives a source's symbols onto a shelf, as `lritstation SHELF receive OPTIONS` does. `on_file` is called with
+    each file once it stands on the shelf. Where `interrupt` is set, the source ends at the next read. What the source,
+    the shelf or `on_file` raises ends the call and is raised after it; the shelf then has what was received before.
+    With `check` a status other than 0 raises its CommandError."""
+    if isinstance(options, str):
+        raise EmbeddedError(f"the options are one text: give a list, such as {options.split()}")
+    lines = Lines(on_file)
+    given = source if interrupt is None else Interrupted(source, interrupt)
+    with storage_of(shelf, writes=True) as storage:
+        status, err = library().run_over(["receive", *options], Host(given, storage, lines.take))
+    if check:
+        checked(status, err)
+    return Received(status, lines.last, err, tuple(lines.receipts))
+
+
+def run(
+    words: Sequence[str], data: Buffer = b"", shelf: Buffer = b"", room: int = FIRST_ROOM, *, check: bool = False
+) -> Answer:
+    """Runs a command over bytes, and returns the shelf's bytes afterwards with its answer. With `check` a status other
+    than 0 raises its CommandError."""
+    answer = library().run(words, as_bytes(data), as_bytes(shelf), room)
+    if check:
+        checked(answer.status, answer.err)
+    return answer
+
+
+class Shelf:
+    """A shelf's file that is open. Each method raises a CommandError for a status other than 0."""
+
+    def __init__(self, path: str | os.PathLike[str], create: int | None = None, readonly: bool = False):
+        flags = os.O_RDONLY if readonly else os.O_RDWR | (os.O_CREAT if create is not None else 0)
+        self.descriptor = os.open(path, flags | os.O_CLOEXEC, 0o644)
+        try:
+            if create is not None and os.fstat(self.descriptor).st_size == 0:
+                self.run(["init", str(create)])
+                self.sync_folder(path)
+        except BaseException:
+            self.close()
+            raise
+
+    @staticmethod
+    def sync_folder(path: str | os.PathLike[str]) -> None:
+        """Waits until the disk has the new file's name."""
+        folder = os.open(os.path.dirname(os.path.abspath(path)), os.O_RDONLY | os.O_DIRECTORY)
+        try:
+            os.fsync(folder)
+        finally:
+            os.close(folder)
+
+    def close(self) -> None:
+        if self.descriptor >= 0:
+            os.close(self.descriptor)
+            self.descriptor = -1
+
+    def __enter__(self) -> Self:
+        return self
+
+    def __exit__(self, kind: type[BaseException] | None, fault: BaseException | None, at: TracebackType | None) -> None:
+        self.close()
+
+    def run(self, words: Sequence[str], data: Buffer = b"") -> bytes:
+        """Runs a command over the file, of which only what the command reads comes into memory, and returns what it
+        prints."""
+        out = io.BytesIO()
+        writes = bool(words) and words[0] in WRITERS
+        with storage_of(self.descriptor, writes) as storage:
+            host = Host(io.BytesIO(as_bytes(data)), storage, out.write)
+            checked(*library().run_over(words, host))
+        return out.getvalue()
+
+    def receive(
+        self,
+        source: Source,
+        options: Sequence[str] = (),
+        *,
+        on_file: Callable[[Receipt], object] | None = None,
+        interrupt: threading.Event | None = None,
+    ) -> Received:
+        """`receive` onto this shelf."""
+        return receive(source, self.descriptor, options, on_file=on_file, interrupt=interrupt, check=True)
+
+    def files(self) -> list[File]:
+        """The files that aren't discarded."""
+        return [it for it in map(file_of, self.run(["list"]).decode().splitlines()) if it]
+
+    def image(self, number: int) -> Image:
+        """The image of a file."""
+        return image_of(self.run(["export", str(number)]))
+
+
+def file_of(line: str) -> File | None:
+    """The file of a line of `list`, unless it is another line."""
+    found = FILE.fullmatch(line)
+    if not found:
+        return None
+    words = [it == "same" if it in ("same", "differs") else int(it) for it in found.groups()]
+    return File._make(words)
+
+
+def image_of(pgm: bytes) -> Image:
+    """The image that `export` or `assemble` wrote."""
+    head = PGM.match(pgm)
+    if not head:
+        raise EmbeddedError("this is no image that the station wrote")
+    columns, rows, most = map(int, head.groups())
+    return Image(rows, columns, most, pgm[head.end() :])
+
+
+def open(path: str | os.PathLike[str], create: int | None = None, readonly: bool = False) -> Shelf:
+    """Opens a shelf's file. With `create` a file that is missing or empty becomes a shelf of that capacity, in bytes.
+    `readonly` serves a file that may not be written."""
+    return Shelf(path, create, readonly)
+
+
+def version() -> str:
+    """That of the native library."""
+    return library().version()

@@ -1,5 +1,6 @@
 """Folders that files come into: safe names, parts, and names that are given to whole files alone."""
 
+import contextlib
 import fnmatch
 import itertools
 import json
@@ -7,48 +8,46 @@ import os
 import re
 import shutil
 import string
-import time
 from collections.abc import Callable, Collection, Iterable
 from typing import Any, NamedTuple, TypeVar
 
+from . import days
 from .shelf import Shelf, StoredFile, label_of
 
 MOST_NAME_CHARACTERS = 150
 DISCARDED = "discarded"
+KEPT = ("latest",)  # folders that no file comes into by its own name
 WHOLE_ENDING = ".lrit"  # of mission files
 STAMP_FORM = "%Y%m%dT%H%M%SZ"
 DAY = re.compile(r"[0-9]{4}-[0-9]{2}-[0-9]{2}")
 Value = TypeVar("Value")
-PLACEHOLDERS = ("day", "label", "number", "channel", "application", "annotation", "stamp")
+PLACEHOLDERS = ("day", "label", "number", "channel", "application", "annotation", "stamp", "heading")
 
 
 class Product(NamedTuple):
-    """What becomes of a file: bytes, or a folder of named bytes, and what its name ends with."""
+    """What is extracted from a file: bytes, or a folder of named bytes, and the ending of its name."""
 
     ending: str
     contents: bytes | dict[str, bytes]
     is_inside: bool = True  # whether it is what a file has in it, and not the file
+    heading: str = ""  # of a bulletin, such as FZNT01-KWBC
 
 
 def safe(name: bytes | str) -> str:
-    """A name that stays in its folder and is no option, of these bytes or characters. It may be empty."""
+    """Returns a name that stays in its folder and isn't an option. It may be empty."""
     text = name.decode("latin-1") if isinstance(name, bytes) else name
     return re.sub(r"^[.-]", "_", re.sub(r"[^A-Za-z0-9._-]", "_", text))[:MOST_NAME_CHARACTERS]
 
 
 def annotation_of(file: StoredFile) -> str:
-    """The safe name that a file's annotation record gives it, or nothing."""
+    """Returns the safe name in a file's annotation record, or nothing."""
     return safe(file.header.annotation)
 
 
 def fits(file: StoredFile, patterns: Iterable[str]) -> bool:
-    """Whether the safe name of a file fits one of these patterns."""
+    """Returns whether the safe name of a file matches one of these patterns."""
     name = annotation_of(file)
     return any(fnmatch.fnmatchcase(name, it) for it in patterns)
-
-
-def today() -> str:
-    return time.strftime("%Y-%m-%d", time.gmtime())
 
 
 # ---- writing
@@ -62,7 +61,7 @@ def write_new(path: str, data: bytes) -> None:
 
 
 def write_whole(path: str, data: bytes) -> None:
-    """Writes a file under another name first, so that none stands half under its own."""
+    """Writes a file under another name first, so that no incomplete file has its name."""
     part = os.path.join(os.path.dirname(path), f".{os.path.basename(path)[:100]}.{os.getpid()}.part")
     try:
         write_new(part, data)
@@ -74,7 +73,7 @@ def write_whole(path: str, data: bytes) -> None:
 
 
 def read_kept(path: str, value_of: Callable[[Any], Value]) -> Value | None:
-    """What is made of what a file of JSON keeps; None where it isn't there, or has something else."""
+    """Returns the value of a JSON file, or None if it is missing or has another form."""
     try:
         with open(path, encoding="utf-8") as it:
             return value_of(json.load(it))
@@ -91,8 +90,7 @@ def write_kept(path: str, value: object) -> None:
 
 
 class Note:
-    """What was found on a shelf, kept in a folder of states. It counts while the shelf and what was wanted are the
-    same."""
+    """A note about a shelf, kept in a folder of notes. It counts while the shelf and the options are the same."""
 
     def __init__(self, shelf: Shelf, state: str, wanted: object):
         about = os.fstat(shelf.descriptor)
@@ -100,18 +98,27 @@ class Note:
         self.path = os.path.join(state, safe(label_of(shelf.path)) + ".json")
 
     def read(self, value_of: Callable[[Any], Value]) -> Value | None:
-        """What is made of the value that is kept; None where that is of another shelf, or can't be read."""
+        """Returns the noted value, or None if the note is of another shelf or can't be read."""
         return read_kept(self.path, lambda it: value_of(it["value"]) if it["identity"] == self.identity else None)
 
     def write(self, value: object) -> None:
         write_kept(self.path, {"identity": self.identity, "value": value})
 
 
+def forget_notes(state: str, paths: Iterable[str], others: Iterable[str] = ()) -> None:
+    """Removes the notes of shelves that are gone: all in the folder except those of these shelves, and of `others`."""
+    kept = {safe(label_of(it)) + ".json" for it in paths} | set(others)
+    with contextlib.suppress(FileNotFoundError):
+        for name in os.listdir(state):
+            if name.endswith(".json") and name not in kept:
+                os.unlink(os.path.join(state, name))
+
+
 # ---- names that files get
 
 
 class Template:
-    """How a file's name is made: a text with placeholders. Each part of it becomes safe."""
+    """A file name with placeholders. Each part of the result is made safe."""
 
     def __init__(self, text: str):
         parts = [name for _, name, form, conversion in string.Formatter().parse(text) if name is not None]
@@ -119,21 +126,37 @@ class Template:
             raise ValueError(f"a name has these placeholders: {', '.join(PLACEHOLDERS)}")
         self.text = text
 
-    def name(self, label: str, file: StoredFile, annotation: str) -> str:
+    @property
+    def begins_with_day(self) -> bool:
+        return self.text.startswith("{day}/")
+
+    def name(self, source: "Source", file: StoredFile, annotation: str, heading: str) -> str:
         values = {
-            "day": today(),
-            "label": label,
+            "day": source.day(file),
+            "label": source.label,
             "number": f"{file.number:06d}",
             "channel": str(file.fields.channel),
             "application": str(file.fields.application),
             "annotation": annotation or "file",
             "stamp": file.header.stamped(STAMP_FORM) or "unstamped",
+            "heading": heading or "no-heading",
         }
         return "/".join(safe(part.format(**values)) or "_" for part in self.text.split("/"))
 
 
+class Source(NamedTuple):
+    """The origin of files, as far as their names show it."""
+
+    label: str
+    shelf_label: str
+    changed: float  # the last change of the shelf
+
+    def day(self, file: StoredFile) -> str:
+        return days.file_day(self.shelf_label, self.changed, file.header.stamp)
+
+
 class Folder:
-    """The folder that files come into. A name is relative to it. Nothing that stands there is ever overwritten."""
+    """The output folder. Names are relative to it. Nothing in it is ever overwritten."""
 
     def __init__(self, path: str, state_name: str, is_flat: bool = False, template: Template | None = None):
         self.path = path
@@ -148,26 +171,26 @@ class Folder:
         return os.path.join(self.path, name)
 
     def is_free(self, name: str) -> bool:
-        is_kept = name in (DISCARDED, self.state_name) or name.startswith(self.state_name + "/")
+        is_kept = name == DISCARDED or name.split("/")[0] in (*KEPT, self.state_name)
         return not is_kept and name not in self.taken and not os.path.lexists(self.full(name))
 
-    def name_for(self, label: str, file: StoredFile, product: Product) -> str:
-        """A free name for a file."""
+    def name_for(self, source: Source, file: StoredFile, product: Product) -> str:
+        """Returns a free name for a file."""
         annotation = annotation_of(file)
         if product.is_inside:
             annotation = annotation.removesuffix(WHOLE_ENDING)
-        own = f"{label}-{file.number:06d}-{annotation or 'file'}"
+        own = f"{source.label}-{file.number:06d}-{annotation or 'file'}"
         if self.template:
-            wanted = [self.template.name(label, file, annotation)]
+            wanted = [self.template.name(source, file, annotation, product.heading)]
         elif self.is_flat:
             short = annotation or f"file-{file.number}"
             wanted = [short, f"{file.number}-{short}", own]
         else:
-            wanted = [f"{today()}/{own}"]
+            wanted = [f"{source.day(file)}/{own}"]
         return self.free([name if name.lower().endswith(product.ending) else name + product.ending for name in wanted])
 
     def free(self, wanted: list[str]) -> str:
-        """The first of these names that is free, or else the last one with a number after it."""
+        """Returns the first of these names that is free, or else the last one with a number after it."""
         stem, ending = os.path.splitext(wanted[-1])
         further = (f"{stem}~{place}{ending}" for place in itertools.count(2))
         name = next(filter(self.is_free, itertools.chain(wanted, further)))
@@ -175,7 +198,7 @@ class Folder:
         return name
 
     def place(self, part: str, name: str) -> bool:
-        """Gives what stands in a part its name. False where something else has come to stand there."""
+        """Gives a part its name. Returns False if something else has this name."""
         final = self.full(name)
         if not os.path.isdir(os.path.dirname(final)):
             os.makedirs(os.path.dirname(final))
@@ -190,7 +213,7 @@ class Folder:
         return True
 
     def set_aside(self, name: str) -> str | None:
-        """Moves a file into the folder of discarded ones, if it is still there. Its name there, or None."""
+        """Moves a file into the folder of discarded ones, if it is still there. Returns its name there, or None."""
         if not os.path.lexists(self.full(name)):
             return None
         os.makedirs(self.full(DISCARDED), exist_ok=True)
@@ -200,13 +223,26 @@ class Folder:
         return aside
 
     def remove_days(self, most: int) -> list[str]:
-        """Removes the folders of days that are older than `most` days. Their names."""
-        oldest = time.strftime("%Y-%m-%d", time.gmtime(time.time() - 86400 * most))
-        names = [name for name in os.listdir(self.path) if DAY.fullmatch(name) and name < oldest]
-        old = sorted(name for name in names if not os.path.islink(self.full(name)) and os.path.isdir(self.full(name)))
-        for name in old:
-            shutil.rmtree(self.full(name))
-        return old
+        """Removes the day folders after which there are `most` days with files. Returns their names."""
+        return remove_days(self.path, most)
+
+
+def days_of(path: str) -> list[str]:
+    """Returns the names of the day folders that have files."""
+    names = [name for name in os.listdir(path) if DAY.fullmatch(name)]
+    wholes = {name: os.path.join(path, name) for name in names}
+    return sorted(
+        it for it, whole in wholes.items() if os.path.isdir(whole) and not os.path.islink(whole) and os.listdir(whole)
+    )
+
+
+def remove_days(path: str, most: int) -> list[str]:
+    """Removes the day folders after which there are `most` days with files, whatever the clock says. Returns their
+    names."""
+    old = days_of(path)[:-most]
+    for name in old:
+        shutil.rmtree(os.path.join(path, name))
+    return old
 
 
 def is_same(one: str, other: str) -> bool:
@@ -214,7 +250,7 @@ def is_same(one: str, other: str) -> bool:
 
 
 def link(part: str, final: str) -> bool:
-    """Moves a file by a link, which overwrites nothing. False where there is no link to be had, or the name is
+    """Moves a file with a link, which overwrites nothing. Returns False if links aren't supported or the name is
     taken."""
     try:
         os.link(part, final)
@@ -258,7 +294,7 @@ class Parts:
             os.unlink(part)
 
     def keep(self, noted: Callable[[list[int]], Collection[int]]) -> None:
-        """Removes every part that isn't noted, and the folder where none is left."""
+        """Removes every part that isn't noted, and the folder if none is left."""
         numbers = self.numbers()
         kept = noted(numbers) if numbers else ()
         for number in numbers:

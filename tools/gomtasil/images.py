@@ -25,6 +25,8 @@ WORD_BITS = 16
 MOST_PIXELS = 64 * 1024 * 1024  # of a picture that is drawn or read
 MOST_BATCH_BYTES = 128 * 1024 * 1024  # of files that it is asked for at once
 MOST_BATCH_PIXELS = 32 * 1024 * 1024
+PNG_LEVEL, FAST_PNG_LEVEL = 6, 1  # of compression
+RUN_LENGTHS = 3  # the strategy of zlib for the fast one
 READ_FORMATS = ("JPEG", "GIF", "PNG")
 ROUNDING = 1e-6  # (less than the least step of a scaled value, and more than the error of its product)
 
@@ -236,6 +238,17 @@ def joined(parts: list[tuple[segments.Segment, Picture]]) -> Picture | None:
     return Picture(one.bits, columns, lines, bytes(canvas))
 
 
+def coverage(shelf: Shelf, group: segments.Group) -> Picture | None:
+    """Of a picture that is put together: 255 where a segment covers it, and 0 elsewhere."""
+    parts = []
+    for part in group.parts:
+        file = shelf.load(part.head)
+        structure = file.header.structure if file else None
+        if part.segment and structure:
+            parts.append((part.segment, Picture(8, structure.columns, structure.lines, b"\xff" * structure.area)))
+    return joined(sorted(parts, key=lambda part: part[0].number)) if parts else None
+
+
 # ---- pictures as files
 
 
@@ -266,18 +279,19 @@ def grey_of(picture: Picture) -> Image:
     return levels_of(image_of(picture))
 
 
-def png_of(picture: Picture) -> bytes:
+def png_of(picture: Picture, level: int = PNG_LEVEL) -> bytes:
     """The bytes of a PNG. Where pixels are scaled, sBIT says how many bits they had."""
-    return png_of_image(image_of(picture), 0 if picture.bits in (BYTE_BITS, WORD_BITS) else picture.bits)
+    return png_of_image(image_of(picture), 0 if picture.bits in (BYTE_BITS, WORD_BITS) else picture.bits, level)
 
 
-def png_of_image(image: Image, significant: int = 0) -> bytes:
+def png_of_image(image: Image, significant: int = 0, level: int = PNG_LEVEL) -> bytes:
     from PIL import PngImagePlugin
 
     notes = PngImagePlugin.PngInfo()
     if significant:
         notes.add(b"sBIT", bytes([significant]))
-    return written(image, "PNG", pnginfo=notes)
+    strategy = {"compress_type": RUN_LENGTHS} if level == FAST_PNG_LEVEL else {}
+    return written(image, "PNG", pnginfo=notes, compress_level=level, **strategy)
 
 
 def written(image: Image, form: str, **options: Any) -> bytes:
@@ -289,6 +303,16 @@ def written(image: Image, form: str, **options: Any) -> bytes:
 def levels_of(image: Image) -> Image:
     """The first eight bits of a grey image of 16 bits; others stay as they are."""
     return image.point(lambda it: it / 256).convert("L") if image.mode.startswith("I") else image
+
+
+def scaled(image: Image, most: int) -> Image:
+    """The image with at most `most` pixels on its longer side."""
+    from PIL import Image
+
+    small = image if image.mode in ("L", "RGB") else image.convert("RGB")
+    factor = most / max(image.size)
+    width, height = (max(1, round(it * factor)) for it in image.size)
+    return small.resize((width, height), Image.Resampling.LANCZOS)
 
 
 def jpeg_of(image: Image, most: int, quality: int = 75) -> bytes:

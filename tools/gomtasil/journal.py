@@ -1,7 +1,8 @@
 """What was taken of a shelf into a folder, so that each file is taken once: a log with a line for each item.
 
-A log isn't kept in memory: of 10^6 files it has some 120 MB. Its last line says where to go on, and the line of a file
-is found by halving, since the count of files grows along it. """
+A log isn't kept in memory: 10^6 files take up to 190 MB. Its last line says where to go on, and the line of a file is
+found by bisection, since the count of files grows along it.
+"""
 
 import contextlib
 import fcntl
@@ -9,6 +10,7 @@ import hashlib
 import itertools
 import json
 import os
+import shutil
 from collections.abc import Collection, Iterator
 from typing import NamedTuple, Self
 
@@ -23,11 +25,11 @@ NO_SUM = "-"
 
 
 class Refusal(Exception):
-    """The files of a shelf can't be taken into this folder."""
+    """The files of a shelf can't be extracted into this folder."""
 
 
 class Line(NamedTuple):
-    """A line of the log: an item of the shelf that needs no further look."""
+    """A line of the log: an item of the shelf that is done with."""
 
     what: str  # file, left or discard; or renamed, with the place of the item before
     number: int  # of the file, or of the one that is discarded
@@ -110,7 +112,7 @@ class Log:
         self.note([self.last._replace(what="renamed", number=number, name=name)])
 
     def append(self, text: str) -> None:
-        """Writes and syncs all of the text, or nothing of it."""
+        """Writes and syncs all of the text, or nothing."""
         data = text.encode("ascii")
         try:
             os.ftruncate(self.descriptor, self.size)
@@ -123,7 +125,7 @@ class Log:
         self.size += len(data)
 
     def lines_from(self, place: int) -> Iterator[Line]:
-        """The lines from the one that begins at a place."""
+        """Yields the lines from the one that begins at a place."""
         rest = b""
         while place < self.size:
             data = os.pread(self.descriptor, min(TAIL_BYTES, self.size - place), place)
@@ -134,14 +136,14 @@ class Log:
             yield from map(self.line, whole)
 
     def line_after(self, place: int) -> int:
-        """The place of the first line that begins at this one or after it."""
+        """Returns the place of the first line that begins here or later."""
         if place <= self.begin_size:
             return self.begin_size
         data = os.pread(self.descriptor, min(TAIL_BYTES, self.size - place + 1), place - 1)
         return place + data.find(b"\n")
 
     def place_of(self, count: int) -> int:
-        """The place of the first line up to which there are `count` files."""
+        """Returns the place of the first line up to which there are `count` files."""
         low, high = self.begin_size, self.size
         while low < high:
             middle = self.line_after((low + high) // 2)
@@ -155,13 +157,13 @@ class Log:
         return self.line_after(low)
 
     def noted(self, numbers: Collection[int]) -> dict[int, str]:
-        """The names that those among these files got last which were taken."""
+        """Returns the latest names of those of these files that were extracted."""
         names: dict[int, str] = {}
         if not numbers:
             return names
         wanted, last = set(numbers), max(numbers)
         for line in self.lines_from(self.place_of(min(numbers) + 1)):
-            # (a name is given anew only before the next batch is noted)
+            # (a name is changed only before the next batch is noted)
             if line.files > last + 1 + MOST_BATCH_FILES:
                 break
             if line.number in wanted and line.what in ("file", "renamed"):
@@ -169,23 +171,24 @@ class Log:
         return names
 
     def name_of(self, number: int) -> str | None:
-        """The name that the file of a number got last, or None where it wasn't taken."""
+        """Returns the latest name of a file, or None if it wasn't extracted."""
         return self.noted([number]).get(number)
 
     def is_of(self, shelf: Shelf) -> bool:
-        """Whether the log tells of this shelf: its last item stands there; of no item yet, the path is the same."""
+        """Returns whether the log is of this shelf: its last item is there, or, with no item yet, the path is the
+        same."""
         if self.last is None:
             return self.shelf_path in (None, os.path.realpath(shelf.path))
         return sum_of(shelf.read(self.last.gate + 1, self.last.extent)) == self.last.sum
 
     def mark_on(self, shelf: Shelf) -> bytes:
-        """Some bytes of the last item that was taken, by which another shelf in the same place is known."""
+        """Returns some bytes of the last item in the log, which identify the shelf."""
         last = self.last
         return shelf.mark(Head(last.gate, last.extent, last.number, False)) if last else b""
 
 
 def log_of(state: str, shelf: Shelf, prefix: str = "") -> tuple[str, Log]:
-    """The label that the files of a shelf have, and its log among those of this folder: its own, or a new one."""
+    """Returns the label of a shelf's files, and its log in this folder: its own, or a new one."""
     base = folders.safe(prefix + label_of(os.path.realpath(shelf.path)))[:MOST_LABEL_CHARACTERS]
     for place in itertools.count(1):
         label = base if place == 1 else f"{base}-{place}"
@@ -193,8 +196,26 @@ def log_of(state: str, shelf: Shelf, prefix: str = "") -> tuple[str, Log]:
         if log.is_of(shelf):
             if not log.is_mine:
                 log.close()
-                raise Refusal(f"another process takes the files of {shelf.path} into this folder")
+                raise Refusal(f"another process extracts {shelf.path} into this folder")
             log.begin(os.path.realpath(shelf.path))
             return label, log
         log.close()
     raise AssertionError
+
+
+def forget(state: str, folder: str) -> None:
+    """Removes the logs of shelves that are gone from a folder, and the remains of their parts."""
+    for name in os.listdir(state):
+        if name.endswith(".log"):
+            path = os.path.join(state, name)
+            with open(path, "rb") as it:
+                first = it.readline(TAIL_BYTES)
+            with contextlib.suppress(ValueError):
+                shelf = str(json.loads(first))
+                # (or of one that has the same name in a folder that was moved)
+                is_here = os.path.dirname(shelf) == os.path.realpath(folder) or not os.path.isdir(
+                    os.path.dirname(shelf)
+                )
+                if is_here and not os.path.lexists(os.path.join(folder, os.path.basename(shelf))):
+                    os.unlink(path)
+                    shutil.rmtree(path.removesuffix(".log") + ".parts", ignore_errors=True)

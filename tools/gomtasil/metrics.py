@@ -1,8 +1,10 @@
 """What is measured, as text for Prometheus (its exposition format, version 0.0.4), and the totals that only grow."""
 
+import time
 from typing import Any
 
 from . import quality
+from .days import is_ahead
 from .shelf import FIRST_GATE, Head, Shelf
 
 PREFIX = "gomtasil_"
@@ -12,7 +14,14 @@ WORDS = {
     "disk_used_percent": ("gauge", "How full the disk of the shelves is."),
     "frames": ("gauge", "Frames of the last minute, 0 where none is restored."),
     "frames_lost": ("gauge", "Frames of the last minute that could not be restored."),
+    "frames_redecoded": ("gauge", "Frames of the last minute that were restored by decoding them again."),
     "corrected_bytes": ("gauge", "Corrected bytes of a restored frame of the last minute, on the average."),
+    "demodulator_locked": ("gauge", "1 where the demodulator holds a signal, else 0."),
+    "level_decibels": ("gauge", "Power of the radio's samples, where 0 is that of a full circle."),
+    "clipped_percent": ("gauge", "Numbers of the radio's samples that were clipped."),
+    "es_n0_decibels": ("gauge", "Es/N0 of the signal."),
+    "carrier_offset_hertz": ("gauge", "Offset of the signal's carrier from the middle of the band."),
+    "clock_error_ppm": ("gauge", "How much faster symbols come than was said."),
     "trouble": ("gauge", "1 where something is wrong, else 0."),
     "frames_total": ("counter", "Frames that came, the lost ones among them."),
     "frames_lost_total": ("counter", "Frames that could not be restored, or never came."),
@@ -28,7 +37,7 @@ def quoted(text: str) -> str:
 
 
 class Metrics:
-    """Lines by their names, as Prometheus wants them: all of a name together, after a word on it and its type."""
+    """Values in the order that Prometheus wants: all of a name together, after its help and type."""
 
     def __init__(self) -> None:
         self.lines: dict[str, list[str]] = {}
@@ -47,7 +56,7 @@ class Metrics:
 
 
 class Totals:
-    """What came in all, as a folder's state keeps it: a shelf that goes takes nothing away."""
+    """Totals over all time, kept in a folder's state: the removal of a shelf doesn't change them."""
 
     def __init__(self, kept: dict[str, Any]):
         self.frames: list[int] = [int(it) for it in kept.get("frames", [0, 0, 0])]
@@ -62,12 +71,22 @@ class Totals:
         return {"frames": self.frames, "until": self.until, "files": self.files, "places": self.places}
 
     def add_minutes(self, folder: str) -> None:
-        sum_ = quality.total(quality.minutes_of(folder, self.until))
+        """Adds the minutes after the last one that was added, in the order of the file, whatever the clock did."""
+        minutes = quality.minutes_of(folder)
+        places = [place for place, it in enumerate(minutes) if it.time == self.until]
+        if places:
+            minutes = minutes[places[-1] + 1 :]
+        elif is_ahead(self.until):
+            minutes = []
+            self.until = time.time()
+        else:
+            minutes = [it for it in minutes if it.time > self.until]
+        sum_ = quality.total(minutes)
         self.frames = [one + other for one, other in zip(self.frames, sum_[1:])]
-        self.until = max(self.until, sum_.time)
+        self.until = minutes[-1].time if minutes else self.until
 
     def add_shelf(self, shelf: Shelf) -> None:
-        """Counts the files that came since the last time."""
+        """Adds the new files of a shelf."""
         gate, number = FIRST_GATE, 0
         place = self.places.get(shelf.path)
         if place:
@@ -85,7 +104,7 @@ class Totals:
             self.places[shelf.path] = [head.next_gate, head.number + 1, head.gate, head.extent, mark]
 
     def forget(self, paths: list[str]) -> None:
-        """Forgets the places in shelves that are gone."""
+        """Forgets shelves that are gone."""
         self.places = {path: place for path, place in self.places.items() if path in paths}
 
     def put(self, metrics: Metrics, folder: str) -> None:

@@ -76,15 +76,34 @@ def draw(
             run = [pixel] if pixel else []
 
 
-def overlay(path: str, number: int, lines_path: str | None, resolution: str, width: int) -> bytes:
+class Lines:
+    """The coasts and borders of GMT at a resolution, or the lines of a file, which are read once."""
+
+    def __init__(self, path: str | None, resolution: str, width: int):
+        self.path, self.resolution, self.width = path, resolution, width
+        self.kinds: list[tuple[list[Line], tuple[int, int, int]]] | None = None
+
+    def read(self) -> list[tuple[list[Line], tuple[int, int, int]]]:
+        if self.path:
+            with open(self.path, encoding="utf-8", errors="replace") as it:
+                return [(list(lines_of(it)), COAST_COLOUR)]
+        borders, coasts = (list(gmt_lines(it, self.resolution)) for it in (BORDERS, COASTS))
+        return [(borders, BORDER_COLOUR), (coasts, COAST_COLOUR)]
+
+    def drawn(self, image: Image, placement: geo.Placement) -> Image:
+        """The image in colours with the lines over it."""
+        self.kinds = self.kinds or self.read()
+        image = image.convert("RGB")
+        for lines, colour in self.kinds:
+            draw(image, placement, lines, colour, self.width)
+        return image
+
+
+def overlay(
+    path: str, number: int, lines_path: str | None, resolution: str, width: int, sweep: str | None = None
+) -> bytes:
     """The PNG of the image to which a file belongs, with coasts and borders over it."""
     with Shelf(path) as shelf:
-        picture, placement = geo.placed_image(shelf, number)
-    image = images.grey_of(picture).convert("RGB")
-    if lines_path:
-        with open(lines_path, encoding="utf-8", errors="replace") as it:
-            draw(image, placement, lines_of(it), COAST_COLOUR, width)
-    else:
-        draw(image, placement, gmt_lines(BORDERS, resolution), BORDER_COLOUR, width)
-        draw(image, placement, gmt_lines(COASTS, resolution), COAST_COLOUR, width)
-    return images.png_of_image(image)
+        found = geo.placed_image(shelf, number, sweep=sweep)
+    drawn = Lines(lines_path, resolution, width).drawn(images.grey_of(found.picture), found.placement)
+    return images.png_of_image(drawn)

@@ -1,4 +1,4 @@
-"""Writes the mission file N with its image not coded, for readers that don't decode lines that are coded without loss,
+"""Writes the LRIT/HRIT file N with its image uncompressed, for readers that don't decode losslessly coded lines, such
 as satpy. A file that isn't coded is written as it is.
 """
 

@@ -102,6 +102,11 @@ BULLETINS = {
 NO_HEADING = "Texts without a heading"
 
 
+def is_of_abi(name: str) -> bool:
+    """Whether a picture of this name is one of ABI, the imager of GOES-R."""
+    return any(it.source == ABI and it.names.fullmatch(name) for it in PATTERNS)
+
+
 def product_of(name: str) -> Product:
     """What a picture of this name shows."""
     for pattern in PATTERNS:

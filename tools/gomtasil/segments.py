@@ -3,7 +3,7 @@ a record has, its length says."""
 
 import re
 import struct
-from collections.abc import Iterable, Iterator
+from collections.abc import Callable, Iterable, Iterator
 from dataclasses import dataclass, field
 from typing import NamedTuple
 
@@ -70,7 +70,7 @@ def unnumbered(name: str, number: int) -> str:
     return name[: runs[-1].start()] + name[runs[-1].end() :] if runs else name
 
 
-def in_words(numbers: Iterable[int]) -> str:
+def in_words(numbers: Iterable[int], between: str = " ", through: str = " to ") -> str:
     """Numbers with their runs drawn together, and at most `MOST_RUNS` of these."""
     runs: list[list[int]] = []
     for it in numbers:
@@ -78,9 +78,14 @@ def in_words(numbers: Iterable[int]) -> str:
             runs[-1][1] = it
         else:
             runs.append([it, it])
-    words = [str(a) if a == b else f"{a} to {b}" for a, b in runs]
+    words = [str(a) if a == b else f"{a}{through}{b}" for a, b in runs]
     rest = [f"and {len(words) - MOST_RUNS} more"] if len(words) > MOST_RUNS else []
-    return " ".join(words[:MOST_RUNS] + rest)
+    return between.join(words[:MOST_RUNS] + rest)
+
+
+def listed(numbers: Iterable[int]) -> str:
+    """The same as 208-212, 215."""
+    return in_words(numbers, ", ", "-")
 
 
 # ---- groups
@@ -162,13 +167,15 @@ class Group:
         return True
 
 
-def groups_of(shelf: Shelf, heads: Iterable[Head]) -> Iterator[Group | Head]:
+def groups_of(
+    shelf: Shelf, heads: Iterable[Head], load: Callable[[Head], StoredFile | None] | None = None
+) -> Iterator[Group | Head]:
     """Files in groups, in the order in which the first ones came: the segments of one picture are one group, until one
-    of them comes again. The head of a file that has a bad checksum comes as it is."""
+    of them comes again. The head of a file that can't be loaded, as its checksum is bad, comes as it is."""
     groups: list[Group | Head] = []
     opened: dict[tuple[object, ...], Group] = {}
     for head in heads:
-        file = shelf.load(head)
+        file = load(head) if load else shelf.load(head)
         if not file:
             groups.append(head)
             continue

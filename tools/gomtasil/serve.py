@@ -1,4 +1,6 @@
-"""A page for people with no web server: std's server, for the page and its pictures and nothing else."""
+"""Serves the page that `page` writes, with its pictures and nothing else, until a signal comes. Prints the addresses
+that a browser can open.
+"""
 
 import http.server
 import os
@@ -10,6 +12,8 @@ from collections.abc import Callable
 from . import program
 
 LOOPBACK, PORT = "127.0.0.1", 8000
+EVERY = ("0.0.0.0", "::")
+WAIT_SECONDS = 3600
 SERVED = re.compile(r"/|/index\.html|/pictures/[A-Za-z0-9_][A-Za-z0-9._~-]*\.(png|jpg|gif)")
 HEADERS = {
     "X-Content-Type-Options": "nosniff",
@@ -19,7 +23,7 @@ HEADERS = {
 
 
 def address_of(text: str) -> tuple[str, int]:
-    """ADDRESS:PORT, either of which may be missing. ValueError where it is something else."""
+    """Parses ADDRESS:PORT, either of which may be missing. ValueError if it is something else."""
     found = re.fullmatch(r"(?:(\[[0-9a-fA-F:.]+\]|[A-Za-z0-9.-]*):)?([0-9]{1,5})?", text)
     if not found or int(found[2] or 0) > 65535:
         raise ValueError("an address is ADDRESS:PORT")
@@ -27,7 +31,7 @@ def address_of(text: str) -> tuple[str, int]:
 
 
 class Handler(http.server.SimpleHTTPRequestHandler):
-    """Answers requests for the page and for its pictures. No folder is listed, and no link is followed."""
+    """Answers requests for the page and its pictures. Folders aren't listed, and links aren't followed."""
 
     directory: str
 
@@ -56,7 +60,7 @@ class Handler(http.server.SimpleHTTPRequestHandler):
         super().end_headers()
 
     def log_message(self, form: str, *arguments: object) -> None:
-        """(Requests aren't told.)"""
+        """(Requests aren't logged.)"""
 
 
 class Server(http.server.ThreadingHTTPServer):
@@ -69,16 +73,32 @@ class Server(http.server.ThreadingHTTPServer):
         Handler(request, client_address, self, directory=self.folder)
 
 
-def serve(address: tuple[str, int], folder: str, write: Callable[[], None], seconds: int) -> int:
-    """Writes the page anew after each pause of this many seconds, and serves it, until a signal comes."""
+def addresses_of(host: str, port: int) -> list[str]:
+    """Returns the addresses that a browser can open."""
+    if host not in EVERY:
+        return [f"http://[{host}]:{port}/" if ":" in host else f"http://{host}:{port}/"]
+    family, other = (socket.AF_INET6, "2001:db8::1") if ":" in host else (socket.AF_INET, "192.0.2.1")
+    with socket.socket(family, socket.SOCK_DGRAM) as it:
+        try:
+            it.connect((other, 9))  # (which sends nothing)
+            own = str(it.getsockname()[0])
+        except OSError:
+            own = ""
+    found = [own] if own and own not in (LOOPBACK, "::1") else []
+    return [address for it in (*found, "::1" if ":" in host else LOOPBACK) for address in addresses_of(it, port)]
+
+
+def serve(address: tuple[str, int], folder: str, write: Callable[[], None] | None, seconds: int) -> int:
+    """Serves the page until a signal comes, and writes it again every `seconds`."""
     server = Server(address, folder)
     name, port = server.server_address[:2]
-    host = f"[{name!s}]" if ":" in str(name) else str(name)
-    print(f"http://{host}:{port}/", flush=True)
+    for it in addresses_of(str(name), int(port)):
+        print(it, flush=True)
     threading.Thread(target=server.serve_forever, daemon=True).start()
-    while not program.wait(seconds):
+    while not program.wait(seconds if write else WAIT_SECONDS):
         try:
-            write()
+            if write:
+                write()
         except Exception as fault:  # (the page that stands there is served on)
             program.tell(program.reason(fault))
     server.shutdown()

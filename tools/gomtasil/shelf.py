@@ -25,9 +25,11 @@ VERSIONS = (1, 2)
 HEADER_BYTES = 19
 FIRST_GATE = HEADER_BYTES
 CHECKSUM_BYTES = 2
+CHECKSUM_BEGIN = 0xFFFF
 
 # ---- gates and items
 OPEN = 0x01
+OPEN_GATE = bytes([OPEN])
 FILE = 0x80
 DISCARD = 0x81
 CHANNELS = 64
@@ -35,6 +37,7 @@ FIELDS = struct.Struct(">BHII")  # channel, application, packets, bytes
 ORIGIN = struct.Struct(">QQQ")  # the frames of the first and the last packet, corrected bytes
 DISCARD_BYTES = 11
 GATE_AND_HEAD_BYTES = 1 + 1 + FIELDS.size + ORIGIN.size
+NEW_ITEM_BYTES = 1 + FIELDS.size + ORIGIN.size + CHECKSUM_BYTES  # of a file's item without its bodies and their lengths
 MOST_FILE_BYTES = 67_108_864
 PIECE_BYTES = 32_768  # that are read at once where many heads are looked at
 MARK_BYTES = 512  # of an item's front, by which it is told from others
@@ -46,7 +49,7 @@ class ShelfError(Exception):
 
 def checksum(data: bytes) -> int:
     """The CRC of CCSDS packets: x^16+x^12+x^5+1, first value FFFF hex."""
-    return binascii.crc_hqx(data, 0xFFFF)
+    return binascii.crc_hqx(data, CHECKSUM_BEGIN)
 
 
 def has_its_checksum(data: bytes) -> bool:
@@ -140,8 +143,28 @@ def item_of(channel: int, application: int, bodies: list[bytes], frame: int = 0)
 def shelf_of(items: Iterable[bytes]) -> bytes:
     """The bytes of a shelf that has these items alone."""
     body = b"".join(bytes([OPEN]) + item for item in items) + b"\0"
-    named = NAME + bytes([VERSIONS[-1]]) + (HEADER_BYTES + len(body)).to_bytes(8, "big")
-    return bytes([COMPLETE]) + named + checksum(named).to_bytes(CHECKSUM_BYTES, "big") + body
+    return header_of(HEADER_BYTES + len(body)) + body
+
+
+def header_of(capacity: int) -> bytes:
+    """The header of a shelf of at most `capacity` bytes."""
+    named = NAME + bytes([VERSIONS[-1]]) + capacity.to_bytes(8, "big")
+    return bytes([COMPLETE]) + named + checksum(named).to_bytes(CHECKSUM_BYTES, "big")
+
+
+def capacity_of(header: bytes) -> int | None:
+    """The capacity that a shelf's header says; None where it is none."""
+    named = header[1:]
+    is_named = len(header) == HEADER_BYTES and header[0] == COMPLETE and named.startswith(NAME)
+    if not is_named or named[len(NAME)] not in VERSIONS or not has_its_checksum(named):
+        return None
+    return int.from_bytes(named[len(NAME) + 1 : -CHECKSUM_BYTES], "big")
+
+
+def discard_of(number: int) -> bytes:
+    """The item that discards a file."""
+    item = bytes([DISCARD]) + number.to_bytes(DISCARD_BYTES - 1 - CHECKSUM_BYTES, "big")
+    return item + checksum(item).to_bytes(CHECKSUM_BYTES, "big")
 
 
 def sound(heads: Iterable[Head]) -> Iterator[Head]:
@@ -159,11 +182,16 @@ class Pieces:
         self.data = b""
 
     def read(self, place: int, count: int) -> bytes:
+        at = self.place_of(place, count)
+        return self.data[at : at + count]
+
+    def place_of(self, place: int, count: int) -> int:
+        """Where in `data` the bytes from a place on stand; fewer where the file ends."""
         at = place - self.start
         if at < 0 or at + count > len(self.data):
             self.data = self.read_on(place, max(count, PIECE_BYTES))
             self.start, at = place, 0
-        return self.data[at : at + count]
+        return at
 
 
 class Shelf:
@@ -196,17 +224,31 @@ class Shelf:
         return data
 
     def read_capacity(self) -> int:
-        header = self.read(0, HEADER_BYTES)
-        named = header[1:]
-        is_named = len(header) == HEADER_BYTES and header[0] == COMPLETE and named.startswith(NAME)
-        if not is_named or named[len(NAME)] not in VERSIONS or not has_its_checksum(named):
+        capacity = capacity_of(self.read(0, HEADER_BYTES))
+        if capacity is None:
             raise ShelfError("not a shelf at 0")
-        return int.from_bytes(named[len(NAME) + 1 : -CHECKSUM_BYTES], "big")
+        return capacity
 
     def heads(self, gate: int = FIRST_GATE, number: int = 0) -> Iterator[Head]:
         """The heads of the items from a gate on, where the next file has this number."""
         pieces = Pieces(self.read)
-        while head := self.head_at(pieces, gate, number):
+        before, shortest = bytes([OPEN, FILE]), xrit.TRANSPORT.size
+        while True:
+            at = pieces.place_of(gate, GATE_AND_HEAD_BYTES)
+            # (most items are files of the newer form, and a month has many)
+            if pieces.data.startswith(before, at) and at + GATE_AND_HEAD_BYTES <= len(pieces.data):
+                channel, _, packets, count = FIELDS.unpack_from(pieces.data, at + 2)
+                extent = NEW_ITEM_BYTES + 2 * packets + count
+                following = gate + 1 + extent
+                is_sound = channel < CHANNELS and packets > 0 and shortest <= count <= MOST_FILE_BYTES
+                if not is_sound or (following >= self.known_size and not self.is_before_the_end(following)):
+                    raise ShelfError(f"not a shelf at {gate}")
+                yield Head(gate, extent, number, False)
+                gate, number = following, number + 1
+                continue
+            head = self.head_at(pieces, gate, number)
+            if head is None:
+                return
             yield head
             gate, number = head.next_gate, number + (not head.is_discard)
 

@@ -1,105 +1,103 @@
-"""Prints a line for each folder of shelves. These are troubles: no file for --minutes, more than --lost per cent of the
-last minute's frames lost, no frame restored, no word of the quality for 5 minutes, and the disk or the newest shelf
-full by more than --full per cent. The quality is that of station.sh, in FOLDER/quality; where that isn't there nothing
-is said of it. Shelves that another process has locked stay, and so does the newest one. Status 0: all is well. 1: there
-is a trouble; with --once only where one is new, and once a day.
+"""Checks each folder of shelves and prints a line for it: OK, or ALERT and what is wrong. These are wrong: no file for
+--minutes, more than --lost per cent of the last minute's frames lost, no frame lock, no quality report for 5 minutes,
+the disk or the newest shelf fuller than --full per cent, less free disk than --keep-free wants, a corrupt shelf, a
+failed unit of --units, and a time that lies ahead of the clock. The quality comes from station.sh (FOLDER/quality), and
+the signal from `lritdemod --status FOLDER/demodulator`; where such a file is missing, it isn't checked. --remove and
+--keep-free never remove the newest two shelves, nor one that another process has locked. Status 0: all is OK. 1:
+something is wrong; with --once only if it is new, and then once a day.
 """
 
 import contextlib
-import fcntl
+import json
 import os
-import shutil
-import stat
 import time
-from collections.abc import Iterator
 from dataclasses import dataclass, field
 from typing import Any
 
+from . import alarm, demodulator, program, quality, removal, units
 from . import folder as folders
-from . import program, quality
 from . import shelf as shelves
+from .days import DAY_SECONDS, is_ahead
+from .found import broken_shelves, found_in, newest_of
 from .metrics import Metrics, Totals
+from .removal import used_percent
 from .shelf import Shelf
 
-QUIET_SECONDS = 300  # after which the quality is too old
 FEWEST_FRAMES = 100  # of a minute whose losses are judged
-DAY_SECONDS = 86_400
 STATE = ".state"  # in a station's folder
+SHELVES = "shelves"  # there, with notes of shelves
+MOST_NAMED = 3  # shelves of a kind that a line names
 
 
 @dataclass(frozen=True)
 class Bounds:
-    """From where on something is a trouble, and what goes."""
+    """The bounds past which something is wrong, and what may be removed."""
 
     minutes: int = 30  # without a file
     lost: int = 5  # per cent of a minute's frames
     full: int = 90  # per cent of the disk or of the newest shelf
     remove_days: int | None = None
     keep_free: int | None = None  # per cent of the disk
+    units: tuple[str, ...] = ()  # patterns of their names
+    looked: int | None = None  # shelves that are looked through for a break; of earlier ones what is known counts
+
+
+@dataclass(frozen=True)
+class Reports:
+    """How the result of a check is reported."""
+
+    once: bool = False
+    prometheus: str | None = None
+    alarm: str | None = None  # the queue of alarms
+    json: bool = False
 
 
 @dataclass
 class State:
-    """What is so in a folder of shelves: troubles by their kinds, and facts."""
+    """The result of a check of a folder: problems by their kinds, and facts."""
 
     folder: str
     troubles: dict[str, str] = field(default_factory=dict)
     facts: list[str] = field(default_factory=list)
+    values: dict[str, float] = field(default_factory=dict)  # what was measured
+    starting: set[str] = field(default_factory=set)  # kinds of troubles that may be over, or not
     is_again: bool = False  # whether a trouble that was told is over
 
     @property
     def line(self) -> str:
         facts = ", ".join(self.facts)
         if not self.troubles:
-            return f"{self.folder}: well{' again' if self.is_again else ''}: {facts}"
-        return f"{self.folder}: trouble: {'; '.join(self.troubles.values())}" + (f" ({facts})" if facts else "")
-
-
-# ---- shelves
-
-
-@dataclass(frozen=True)
-class Found:
-    """A shelf's file in a folder."""
-
-    path: str
-    size: int
-    changed: float  # seconds since 1970
-    capacity: int
+            return f"{self.folder}: {'recovered' if self.is_again else 'OK'}: {facts}"
+        return f"{self.folder}: ALERT: {'; '.join(self.troubles.values())}" + (f" ({facts})" if facts else "")
 
     @property
-    def has_files(self) -> bool:
-        return self.size > shelves.FIRST_GATE + 1
-
-    @property
-    def full(self) -> int:
-        return 100 * self.size // self.capacity if self.capacity else 100
+    def json(self) -> str:
+        found = {"folder": self.folder, "state": "ALERT" if self.troubles else "OK", "recovered": self.is_again}
+        return json.dumps(found | {"troubles": self.troubles, "facts": self.facts} | self.values)
 
 
-def found_in(folder: str) -> list[Found]:
-    """The shelves of a folder by the time of their last change, the newest one last. Other files and links are none."""
-    found = []
-    for path in shelves.paths_of(folder):
-        with contextlib.suppress(OSError, shelves.ShelfError):
-            about = os.lstat(path)
-            if stat.S_ISREG(about.st_mode):
-                with Shelf(path) as shelf:
-                    found.append(Found(path, about.st_size, about.st_mtime, shelf.capacity))
-    return sorted(found, key=lambda it: (it.changed, it.path))
+# ---- what is looked at
 
 
 def look_at_shelves(state: State, bounds: Bounds, metrics: Metrics) -> None:
+    notes = os.path.join(state.folder, STATE, SHELVES)
+    if broken := broken_shelves(state.folder, notes, bounds.looked):
+        state.troubles["broken"] = some(broken)
     found = found_in(state.folder)
     if not found:
-        state.troubles["shelf"] = "no shelf"
+        state.troubles.setdefault("shelf", "no shelf")
         return
-    newest = found[-1]
-    filled = [it for it in found if it.has_files]
-    seconds = max(0, int(time.time() - (filled or found)[-1].changed))
-    age, name = seconds // 60, os.path.basename(newest.path)
+    if ahead := [it.name for it in found if it.is_ahead]:
+        is_one = len(ahead) == 1
+        state.troubles["clock"] = f"{some(ahead)} {'is' if is_one else 'are'} ahead of the clock"
+    newest, filled = newest_of(found), [it for it in found if it.has_files]
+    seconds = max(0, int(time.time() - newest_of(filled or found).changed))
+    age, name = seconds // 60, newest.name
     if filled:
         metrics.add("last_file_age_seconds", seconds, folder=state.folder)
+        state.values["last_file_age_seconds"] = seconds
     metrics.add("shelf_used_percent", newest.full, folder=state.folder, shelf=name)
+    state.values["shelf_used_percent"] = newest.full
     state.facts += [f"last file {age} minutes ago" if filled else "no file yet", f"{name} {newest.full} % full"]
     if age > bounds.minutes:
         state.troubles["quiet"] = f"no file for {age} minutes"
@@ -107,100 +105,121 @@ def look_at_shelves(state: State, bounds: Bounds, metrics: Metrics) -> None:
         state.troubles["full"] = f"{name} is {newest.full} % full"
 
 
-def used_percent(folder: str) -> int:
-    """How full the disk is, as `df` says it."""
-    _, used, free = shutil.disk_usage(folder)
-    return -(-100 * used // (used + free)) if used + free else 100
+def some(words: list[str]) -> str:
+    more = [f"{len(words) - MOST_NAMED} more"] if len(words) > MOST_NAMED else []
+    return ", ".join(words[:MOST_NAMED] + more)
 
 
 def look_at_disk(state: State, bounds: Bounds, metrics: Metrics) -> None:
     full = used_percent(state.folder)
     metrics.add("disk_used_percent", full, folder=state.folder)
+    state.values["disk_used_percent"] = full
     state.facts.append(f"disk {full} % full")
     if full > bounds.full:
         state.troubles["disk"] = f"the disk is {full} % full"
 
 
 def look_at_quality(state: State, bounds: Bounds, metrics: Metrics) -> None:
-    """The quality is the last line of `gomtasil quality`."""
+    """Checks the last line of `gomtasil quality`."""
     path = os.path.join(state.folder, quality.QUALITY)
     if not os.path.isfile(path):
         return
-    age = time.time() - os.stat(path).st_mtime
-    if age > QUIET_SECONDS:
-        state.troubles["quality"] = f"no word of the quality for {int(age) // 60} minutes"
+    changed = os.stat(path).st_mtime
+    age = time.time() - changed
+    if age > quality.OLD_SECONDS or is_ahead(changed):
+        since = f" for {int(age) // 60} minutes" if age > 0 else ""
+        state.troubles["quality"] = f"no quality report{since}"
         return
     with open(path, encoding="ascii", errors="replace") as it:
-        told = quality.MINUTE_LINE.fullmatch(it.read(1000).rstrip("\n"))
+        line = it.read(1000).rstrip("\n")
+    if line == quality.STARTED:
+        state.facts.append("no quality report yet")
+        return
+    told = quality.MINUTE_LINE.fullmatch(line)
     frames, lost = (int(told[1]), int(told[2])) if told else (0, 0)
+    state.values["frames"], state.values["frames_lost"] = frames, lost
     if not told or frames == lost:
         metrics.add("frames", 0, folder=state.folder)
-        state.troubles["locks"] = "nothing locks"
+        state.troubles["locks"] = "no frame lock"
         return
     metrics.add("frames", frames, folder=state.folder)
     metrics.add("frames_lost", lost, folder=state.folder)
     if told[3]:
         metrics.add("corrected_bytes", float(told[3]), folder=state.folder)
+        state.values["corrected_bytes"] = float(told[3])
+        state.values["frames_redecoded"] = int(told[4] or 0)
+        metrics.add("frames_redecoded", int(told[4] or 0), folder=state.folder)
     state.facts.append(f"{lost} of {frames} frames lost")
     if frames >= FEWEST_FRAMES and 100 * lost > bounds.lost * frames:
         state.troubles["lost"] = f"{lost} of {frames} frames lost, {100 * lost // frames} %"
 
 
-# ---- old shelves
+def look_at_demodulator(state: State, bounds: Bounds, metrics: Metrics) -> None:
+    """Checks the last line of `lritdemod --status FOLDER/demodulator`."""
+    reading = demodulator.last_of(state.folder)
+    if not reading:
+        return
+    if reading.age > quality.OLD_SECONDS:
+        state.troubles["demodulator"] = f"no demodulator report for {int(reading.age) // 60} minutes"
+        return
+    metrics.add("demodulator_locked", int(bool(reading.lock)), folder=state.folder)
+    metrics.add("level_decibels", reading.level, folder=state.folder)
+    metrics.add("clipped_percent", reading.clipped, folder=state.folder)
+    state.facts.append(reading.fact)
+    if not reading.lock:
+        state.troubles["signal"] = "the demodulator finds no signal"
+        return
+    metrics.add("es_n0_decibels", reading.lock.es_n0, folder=state.folder)
+    metrics.add("carrier_offset_hertz", reading.lock.carrier, folder=state.folder)
+    metrics.add("clock_error_ppm", reading.lock.clock, folder=state.folder)
 
 
-def weeks_of(found: Found) -> Iterator[str]:
-    """The weeks of a shelf: that of its last change, and those that its name may say, by a week or by a day."""
-    yield week_of(time.gmtime(found.changed))
-    label = shelves.label_of(found.path)
-    yield label[:7]
-    with contextlib.suppress(ValueError):
-        yield week_of(time.strptime(label[:10], "%Y-%m-%d"))
+def look_at_units(state: State, bounds: Bounds, _: Metrics) -> None:
+    if not bounds.units:
+        return
+    try:
+        failed, starting = units.failed(list(bounds.units))
+    except units.Unknown as fault:
+        state.troubles["units"] = str(fault)
+        return
+    for name in sorted(failed):
+        state.troubles[f"unit {name}"] = f"{name} has failed"
+    state.starting = {f"unit {name}" for name in starting}
 
 
-def week_of(when: time.struct_time) -> str:
-    return time.strftime("%G-%V", when)
+LOOKS = (look_at_shelves, look_at_disk, look_at_quality, look_at_demodulator, look_at_units)
 
 
-def removed(found: Found) -> bool:
-    """Removes a shelf, if no process writes to it. The lock is held while it goes."""
-    with contextlib.suppress(OSError):
-        with open(os.open(found.path, os.O_RDONLY | os.O_NOFOLLOW), "rb") as it:
-            fcntl.flock(it, fcntl.LOCK_EX | fcntl.LOCK_NB)
-            os.unlink(found.path)
-        program.tell(f"removed {found.path}")
-        return True
-    return False
-
-
-def removed_old(folder: str, bounds: Bounds) -> list[str]:
-    """Removes shelves by their age, and then the oldest ones until enough of the disk is free; never the newest one,
-    nor one that is in use. What is said of it."""
-    this_week, gone = week_of(time.gmtime()), 0
-    for it in found_in(folder)[:-1]:
-        is_old = bounds.remove_days is not None and time.time() - it.changed > bounds.remove_days * DAY_SECONDS
-        is_needed = bounds.keep_free is not None and 100 - used_percent(folder) < bounds.keep_free
-        gone += (is_needed or (is_old and this_week not in weeks_of(it))) and removed(it)
-    return [f"{gone} old shelves removed"] if gone else []
+def look_at(folder: str, bounds: Bounds, metrics: Metrics | None = None) -> State:
+    """Checks a folder of shelves. Only the notes about its shelves are written."""
+    state, metrics = State(folder), metrics or Metrics()
+    if not os.path.isdir(folder):
+        state.troubles["folder"] = "no such folder"
+        return state
+    for look in LOOKS:
+        look(state, bounds, metrics)
+    return state
 
 
 # ---- what is told
 
 
 class Memory:
-    """What a folder's state keeps from call to call: the totals, and which troubles were told when."""
+    """What is kept in a folder between calls: the totals, and which problems were reported when."""
 
     def __init__(self, folder: str):
         self.path = os.path.join(folder, STATE, "state.json")
         if not folders.read_kept(self.path, self.take):
             if os.path.exists(self.path):
-                program.tell(f"{self.path} can't be read, so it begins anew")
+                program.tell(f"{self.path} can't be read, so the totals start from scratch")
             self.take({})
 
     def take(self, kept: dict[str, Any]) -> bool:
         self.totals = Totals(kept.get("totals", {}))
         self.told = {str(kind) for kind in kept.get("told", [])}
         self.told_at = float(kept.get("told_at", 0))
+        if is_ahead(self.told_at):
+            self.told_at = 0.0
         return True
 
     def write(self) -> None:
@@ -209,27 +228,17 @@ class Memory:
         )
 
     def is_news(self, state: State) -> bool:
-        """Whether a trouble is to be told: one that is new, or after a day."""
-        kinds = set(state.troubles)
+        """Returns whether a problem has to be reported: a new one, or any one after a day."""
+        kinds = set(state.troubles) | (self.told & state.starting)
         is_news = bool(kinds - self.told) or (bool(kinds) and time.time() - self.told_at >= DAY_SECONDS)
+        state.is_again = bool(self.told) and not kinds
         self.told = kinds
         self.told_at = time.time() if is_news else self.told_at
         return is_news
 
 
-def look_at(folder: str, bounds: Bounds, metrics: Metrics | None = None) -> State:
-    """What is so in a folder. It changes nothing."""
-    state, metrics = State(folder), metrics or Metrics()
-    if not os.path.isdir(folder):
-        state.troubles["folder"] = "no folder"
-        return state
-    for look in (look_at_shelves, look_at_disk, look_at_quality):
-        look(state, bounds, metrics)
-    return state
-
-
 def count_on(memory: Memory, folder: str) -> None:
-    """Brings the totals of a folder up to now."""
+    """Adds what is new to the totals of a folder."""
     memory.totals.add_minutes(folder)
     found = found_in(folder)
     memory.totals.forget([it.path for it in found])
@@ -238,42 +247,57 @@ def count_on(memory: Memory, folder: str) -> None:
             memory.totals.add_shelf(shelf)
 
 
-def watch(folders_: list[str], bounds: Bounds, prometheus: str | None, once: bool) -> int:
-    """Looks at each folder, and prints a line of it. 1 where there is a trouble; with `once` where it is news."""
+def watch(folders_: list[str], bounds: Bounds, reports: Reports) -> int:
+    """Checks each folder and prints a line about it. Returns 1 if something is wrong; with `once` only if that is new.
+    With a queue of alarms, new problems go there, and the status is 0."""
     metrics, status = Metrics(), 0
-    for folder in folders_:
-        gone = removed_old(folder, bounds)
-        state = look_at(folder, bounds, metrics)
+    for place, folder in enumerate(folders_):
+        gone, lack = removal.removed_old(folder, bounds.remove_days, bounds.keep_free)
+        # (the units are those of the whole machine)
+        state = look_at(folder, bounds if place == 0 else without_units(bounds), metrics)
         state.facts += gone
+        if lack:
+            state.troubles["room"] = lack
         metrics.add("trouble", int(bool(state.troubles)), folder=folder)
         is_trouble = bool(state.troubles)
-        if (once or prometheus) and os.path.isdir(folder):
-            is_news = keep(folder, state, metrics, bool(prometheus))
-            is_trouble = is_news if once else is_trouble
-        print(state.line, flush=True)
+        if (reports.once or reports.prometheus) and os.path.isdir(folder):
+            is_news = keep(folder, state, metrics, bool(reports.prometheus))
+            is_trouble = is_news if reports.once else is_trouble
+        print(state.json if reports.json else state.line, flush=True)
+        if reports.alarm and (is_trouble or state.is_again):
+            alarm.put(reports.alarm, state.line)
+            is_trouble = False
         status = status or int(is_trouble)
-    if prometheus:
+    return written(reports.prometheus, metrics) or status
+
+
+def without_units(bounds: Bounds) -> Bounds:
+    return Bounds(bounds.minutes, bounds.lost, bounds.full, bounds.remove_days, bounds.keep_free)
+
+
+def written(path: str | None, metrics: Metrics) -> int:
+    """Writes the values for Prometheus. Returns 1 if that fails."""
+    if path:
         try:
-            folders.write_whole(prometheus, metrics.text().encode())
-            os.chmod(prometheus, 0o644)
+            folders.write_whole(path, metrics.text().encode())
+            os.chmod(path, 0o644)
         except OSError as fault:
-            program.tell(f"{prometheus} can't be written: {program.reason(fault)}")
+            program.tell(f"{path} can't be written: {program.reason(fault)}")
             return 1
-    return status
+    return 0
 
 
 def keep(folder: str, state: State, metrics: Metrics, counts: bool) -> bool:
-    """Keeps what is needed in the next call. Whether a trouble is news."""
+    """Saves what the next call needs. Returns whether a problem has to be reported."""
     memory = Memory(folder)
-    was_told = bool(memory.told)
     is_news = memory.is_news(state)
-    state.is_again = was_told and not state.troubles
     try:
         if counts:
             count_on(memory, folder)
             memory.totals.put(metrics, folder)
         memory.write()
     except (OSError, shelves.ShelfError) as fault:
-        program.tell(f"{folder}: the state can't be kept: {program.reason(fault)}")
+        with contextlib.suppress(OSError):
+            program.tell(f"{folder}: the state can't be saved: {program.reason(fault)}")
         return bool(state.troubles)
     return is_news

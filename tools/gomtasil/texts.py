@@ -21,7 +21,8 @@ JPEG_SIGNATURE = b"\xff\xd8\xff"
 SIGNATURES = ((JPEG_SIGNATURE, ".jpg"), (b"GIF87a", ".gif"), (b"GIF89a", ".gif"), (b"\x89PNG\r\n\x1a\n", ".png"))
 TEXT_ENDING, BINARY_ENDING, ZIP_ENDING = ".txt", ".bin", ".zip"
 TEXT_CONTROLS = b"\t\n\r\f\x01\x02\x03\x04\x1a\x1b\x1e\x1f"  # of lines, and of the frames of bulletins
-CONTROL_CATEGORIES = ("Cc", "Cf", "Cs")  # controls, formats (as those that turn the direction), surrogates
+CONTROL_CATEGORIES = ("Cc", "Cf", "Cs")  # controls, formats (such as those that turn the direction), surrogates
+PLAIN = re.compile(rb"[\t\n\x20-\x7e]*")  # (what most names are)
 HEADING = re.compile(r"^([A-Z]{4}[0-9]{2}) ([A-Z]{4}) ([0-9]{6})(?: ([A-Z]{3}))?\s*$", re.MULTILINE)
 HEADED_CHARACTERS = 400  # at a text's front in which its heading is looked for
 
@@ -33,7 +34,7 @@ class BadZip(Exception):
 class Heading(NamedTuple):
     """The abbreviated heading of a bulletin, by WMO-No. 386."""
 
-    designator: str  # what it is and of where, as WTNT31
+    designator: str  # what it is and of where, such as WTNT31
     centre: str
     day_and_time: str
     part: str
@@ -50,6 +51,8 @@ def is_text(data: bytes) -> bool:
 
 def readable(data: bytes) -> str:
     """A text for people: decoded, with one line feed after each line, and without control characters."""
+    if PLAIN.fullmatch(data):
+        return data.decode("ascii")
     try:
         text = data.decode("utf-8")
     except UnicodeDecodeError:

@@ -1,6 +1,7 @@
 """Tries the four line codes over the first 4,000,000 bytes of a recording, and where none locks over as many from its
 middle. The last line has the options to give to `receive`. Where it has another form, what it looks like is told, and a
-line that leads it to soft symbols. Status 0: one locks. 1: none does.
+line that leads it to soft symbols, or from a recording of complex samples, I and Q, to files. Where none locks, the
+reason is printed. Status 0: one locks. 1: none does.
 """
 
 import collections
@@ -10,7 +11,7 @@ import subprocess
 from collections.abc import Callable
 from typing import NamedTuple
 
-from . import program
+from . import iq, program, reasons
 
 TRIED_BYTES = 4_000_000  # 244 frames
 LOOKED_BYTES = 65_536  # by which the form is told
@@ -32,9 +33,14 @@ class Tried(NamedTuple):
     """What a line code gives of some symbols."""
 
     options: tuple[str, ...]
+    symbols: int
     frames: int
     restored: int
     corrected: int  # bytes, a lost frame as one more than can be
+
+    @property
+    def heard(self) -> reasons.Heard:
+        return reasons.Heard(" ".join(self.options), self.frames, self.symbols)
 
 
 def tried(symbols: bytes, options: tuple[str, ...]) -> Tried:
@@ -42,18 +48,17 @@ def tried(symbols: bytes, options: tuple[str, ...]) -> Tried:
     *windows, last = map(bytes.split, done.stdout.splitlines())
     corrected = sum(LOST_BYTES if it[6] == b"lost" else sum(map(int, it[7:11])) for it in windows)
     numbers = dict(zip(last[::2], last[1::2]))
-    return Tried(options, int(numbers[b"frames"]), int(numbers[b"restored"]), corrected)
+    return Tried(options, len(symbols), int(numbers[b"frames"]), int(numbers[b"restored"]), corrected)
 
 
-def best_of(symbols: bytes, is_told: bool) -> Tried | None:
-    """The line code that restores most frames, or None where none restores any."""
+def tries_of(symbols: bytes, is_told: bool) -> list[Tried]:
+    """What each line code gives, that which restores most frames first."""
     found = []
     for line, g2 in CODES:
         found.append(tried(symbols, ("--line", line, "--g2", g2)))
         if is_told:
             print(f"{' '.join(found[-1].options)}: frames {found[-1].frames} restored {found[-1].restored}", flush=True)
-    best = max(found, key=lambda it: it.restored)
-    return best if best.restored else None
+    return sorted(found, key=lambda it: it.restored, reverse=True)
 
 
 def piles(data: bytes) -> bool:
@@ -63,12 +68,15 @@ def piles(data: bytes) -> bool:
     return ends > len(data) / 20 and ends > 4 * (data.count(1) + data.count(254))
 
 
-def are_unsigned(symbols: bytes, best: Tried) -> bool:
-    """Whether bytes that lock are unsigned: by what is corrected, or where that is the same by their values."""
+def sign_of(symbols: bytes, best: Tried) -> str:
+    """Whether bytes that lock are signed or unsigned: by what is corrected, or where that is the same by their values;
+    either where these don't tell."""
     flipped = tried(symbols.translate(FLIPPED), best.options)
     # (a frame that one of them doesn't find counts as a lost one)
     here, there = (it.corrected - LOST_BYTES * it.frames for it in (best, flipped))
-    return there < here or (there == here and piles(symbols[:LOOKED_BYTES]))
+    if there != here:
+        return "unsigned" if there < here else "signed"
+    return "unsigned" if piles(symbols[:LOOKED_BYTES]) else "either"
 
 
 def of_bits(data: bytes) -> bytes:
@@ -126,13 +134,11 @@ def are_floats(data: bytes) -> bool:
 
 
 def form_of(data: bytes) -> str:
-    """What a file looks like in which nothing locks, by its first bytes."""
+    """What a file without a frame lock looks like, by its first bytes."""
     if data[:4] == MARKER and data[CADU_BYTES:][:4] == MARKER:
         return f"it looks like frames of {CADU_BYTES} bytes with their marker (SatDump's .cadu): see cadu.sh"
     if are_frames(data):
         return f"it looks like frames of {FRAME_BYTES} bytes (goesrecv's packets): give `receive --input frames`"
-    if not data:
-        return "it is empty"
     if set(data) <= {0, 1}:
         return f"it looks like bits, a byte of 0 or 1 each: lead it through\n  {BITS}"
     if are_floats(data):
@@ -155,22 +161,42 @@ def read_part(path: str, start: int) -> bytes:
         return it.read(TRIED_BYTES)
 
 
+def gives_frames(symbols: bytes, options: str) -> bool:
+    return tried(symbols[:TRIED_BYTES], tuple(options.split())).restored > 0
+
+
 def which(path: str) -> int:
     """Tells of a recording. 0 where a line code locks, and else 1."""
     size = os.path.getsize(path)
+    front = read_part(path, 0)[:LOOKED_BYTES]
+    if sure := reasons.sure_reason(front, size):
+        print(f"no frame lock\n{reasons.TEXTS[sure]}")
+        return 1
+    heard: list[reasons.Heard] = []
     for start in [0, size // 2] if size > 2 * TRIED_BYTES else [0]:
         data = read_part(path, start)
         print(f"bytes {start} to {start + len(data)} of the recording:", flush=True)
-        best = best_of(data, True)
-        if best:
-            return told(best, FORMS[0] if are_unsigned(data, best) else None)
+        best, *others = tries_of(data, True)
+        if best.restored:
+            return told_of_bytes(best, sign_of(data, best))
+        heard += (it.heard for it in (best, *others))
     data = read_part(path, 0)
     for form in FORMS:
-        best = best_of(form[1](data), False)
-        if best:
+        best = tries_of(form[1](data), False)[0]
+        if best.restored:
             return told(best, form)
-    print(f"nothing locks\n{form_of(data[:LOOKED_BYTES])}")
+    line = iq.line_of(path, data, are_floats(front), gives_frames)
+    if line:
+        print(f"it looks like complex samples, I and Q: lead it through\n  {line}\nlocks")
+        return 0
+    print(f"no frame lock\n{reasons.text_of(front, size, heard)}\n{form_of(front)}")
     return 1
+
+
+def told_of_bytes(best: Tried, sign: str) -> int:
+    if sign == "either":
+        print(f"read as {FORMS[0][0]} it gives the same: if much is lost, lead it through\n  {FORMS[0][2]}")
+    return told(best, FORMS[0] if sign == "unsigned" else None)
 
 
 def told(best: Tried, form: tuple[str, Callable[[bytes], bytes], str] | None) -> int:

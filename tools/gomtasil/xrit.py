@@ -72,7 +72,10 @@ class Header(NamedTuple):
 
     def first(self, kind: int) -> bytes | None:
         """The contents of the first record of a kind, or None."""
-        return next((contents for found, contents in self.records if found == kind), None)
+        for found, contents in self.records:
+            if found == kind:
+                return contents
+        return None
 
     @property
     def structure(self) -> Structure | None:
@@ -104,7 +107,7 @@ class Header(NamedTuple):
 
     @property
     def is_open(self) -> bool:
-        """Whether it has no fault, and no key record has a byte that isn't 0, as that of an encrypted file."""
+        """Whether it has no fault, and no key record has a byte that isn't 0, such as that of an encrypted file."""
         return self.file_type != FAULTY and not any(kind == KEY_KIND and any(it) for kind, it in self.records)
 
     @property
@@ -124,7 +127,8 @@ class Header(NamedTuple):
 
     def stamped(self, form: str) -> str:
         """The time stamp in a form, or nothing."""
-        return f"{self.stamp:{form}}" if self.stamp else ""
+        stamp = self.stamp
+        return f"{stamp:{form}}" if stamp else ""
 
     @property
     def mended(self) -> Mended | None:
@@ -135,7 +139,7 @@ class Header(NamedTuple):
 
 
 def mended_of(text: bytes) -> Mended | None:
-    """What a text says that names the places of the packets which stand in, as `gomtasil mended 2 8-9 of 13`."""
+    """What a text says that names the places of the packets which stand in, such as `gomtasil mended 2 8-9 of 13`."""
     match = MENDED.fullmatch(text)
     if not match:
         return None
@@ -169,6 +173,16 @@ def header_of(proper: bytes) -> Header:
         records.append((kind, proper[at + RECORD.size : at + length]))
         at += length
     return Header(file_type, size, records)
+
+
+def is_mission_file(front: bytes, size: int) -> bool:
+    """Whether a file of this size begins as a mission file does, and its primary record says of no more bytes."""
+    if len(front) < PRIMARY.size:
+        return False
+    fields: tuple[int, ...] = PRIMARY.unpack(front[: PRIMARY.size])
+    kind, length, _, header_bytes, bits = fields
+    is_primary = kind == 0 and length == PRIMARY.size
+    return is_primary and PRIMARY.size <= header_bytes and header_bytes + (bits + 7) // 8 <= size
 
 
 def record(kind: int, contents: bytes) -> bytes:

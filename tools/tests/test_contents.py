@@ -2,6 +2,8 @@
 
 import os
 import random
+from collections.abc import Iterator
+from typing import Any
 
 from .support import (
     Case,
@@ -50,19 +52,19 @@ OPENED = [
 
 @needs_pillow
 class Contents(Case):
-    def test_what_is_inside(self):
+    def test_what_is_inside(self) -> None:
         write("inside.shelf", shelf_of([added(number, it) for number, (it, _, _) in enumerate(OPENED)]))
         self.call("contents", "inside.shelf", "inside")
         found = {int(path.split("-")[3]): (path.split("-", 4)[4], data) for path, data in taken("inside").items()}
         for number, (file, name, wanted) in enumerate(OPENED):
             self.assertEqual(found[number], (name, file if wanted is None else wanted))
 
-    def test_a_zip_of_two_files(self):
+    def test_a_zip_of_two_files(self) -> None:
         write("two.shelf", shelf_of([added(0, named(b"TWO", 2, zip_of(("a", b"one"), ("b.gif", GIF))))]))
         self.call("contents", "two.shelf", "two", "--flat")
         self.assertEqual(taken("two"), {"TWO/a.txt": b"one", "TWO/b.gif": GIF})
 
-    def test_depths(self):
+    def test_depths(self) -> None:
         """The pixels are scaled, and are the same again by the bits that sBIT says."""
         draws, drawn = random.Random(1), []
         for bits in range(1, 17):
@@ -79,7 +81,7 @@ class Contents(Case):
             self.assertEqual([it >> depth - bits for it in pixels], values)
 
 
-def drawn_images():
+def drawn_images() -> Iterator[Any]:
     draws = random.Random(2)
     for bits, columns, lines in [(8, 40, 30), (10, 64, 20), (12, 34, 7), (16, 20, 20), (5, 32, 9), (7, 24, 5)]:
         places = ((x, y) for y in range(lines) for x in range(columns))
@@ -92,7 +94,7 @@ def drawn_images():
 class Coded(Case):
     """Images that are coded without loss, by the program's repack."""
 
-    def setUp(self):
+    def setUp(self) -> None:
         super().setUp()
         self.plain = list(drawn_images())
         write("coded.shelf", shelf_of([added(number, it) for number, it in enumerate(self.plain)]))
@@ -100,7 +102,7 @@ class Coded(Case):
             station("coded.shelf", "repack", str(number), "16")
         self.without = {**os.environ, "LRITSTATION": "/nowhere/lritstation"}
 
-    def test_plain_files_are_the_same(self):
+    def test_plain_files_are_the_same(self) -> None:
         for number, it in enumerate(self.plain):
             self.call("plain", "coded.shelf", str(number + len(self.plain)), "plain")
             self.assertEqual(read("plain"), it)
@@ -109,7 +111,7 @@ class Coded(Case):
         self.assertFalse(os.path.exists("never"), "nothing stands after a refusal")
 
     @needs_pillow
-    def test_pictures_are_the_same(self):
+    def test_pictures_are_the_same(self) -> None:
         self.call("contents", "coded.shelf", "coded")
         found = {int(path.split("-")[3]): data for path, data in taken("coded").items()}
         for number in range(len(self.plain)):
@@ -117,7 +119,7 @@ class Coded(Case):
             self.assertTrue(found[number].startswith(b"\x89PNG"))
 
     @needs_pillow
-    def test_without_the_program(self):
+    def test_without_the_program(self) -> None:
         _, said = self.call("contents", "coded.shelf", "bare", env=self.without)
         count = len(self.plain)
         self.assertEqual(said.count("/nowhere/lritstation exports no image of it"), count)

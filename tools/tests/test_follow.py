@@ -5,6 +5,7 @@ import resource
 import signal
 import subprocess
 import time
+from typing import Any
 
 from .support import (
     COMMAND,
@@ -15,10 +16,12 @@ from .support import (
     ended,
     has_no_rest,
     header,
+    named,
     number_in,
     old,
     read,
     shelf_of,
+    stamp,
     start,
     taken,
     text_file,
@@ -29,20 +32,24 @@ from .support import (
 MANY_FILES = 19_940
 
 
-def folder_of_shelves(folder):
+def folder_of_shelves(folder: Any) -> None:
     os.mkdir(folder)
     for name in ("one", "two"):
         write(f"{folder}/{name}.shelf", shelf_of([added(0, text_file(name.encode()))]))
 
 
+def logs_of(folder: str) -> list[str]:
+    return sorted(it for it in os.listdir(f"{folder}/.follow") if it.endswith(".log"))
+
+
 class Shelves(Case):
-    def test_a_shelf_of_version_1(self):
+    def test_a_shelf_of_version_1(self) -> None:
         first, second = text_file(b"first"), text_file(b"second")
         write("old.shelf", shelf_of([old(0, first), added(1, second)], 1))
         self.call("follow", "old.shelf", "old", "--flat")
         self.assertEqual(taken("old"), {"first": first, "second": second})
 
-    def test_what_is_discarded_or_damaged_is_left_out(self):
+    def test_what_is_discarded_or_damaged_is_left_out(self) -> None:
         first, second = text_file(b"first"), text_file(b"second")
         damaged = bytearray(added(1, second))
         damaged[60] ^= 1
@@ -52,7 +59,7 @@ class Shelves(Case):
         self.assertEqual((out, taken("some")), ("2 second\n", {"second": second}))
         self.assertIn("file 1 of some.shelf has a bad checksum", said)
 
-    def test_shelves_that_are_broken_or_none(self):
+    def test_shelves_that_are_broken_or_none(self) -> None:
         write("broken.shelf", shelf_of([added(0, text_file(b"first"))])[:-1] + b"\1\x7f")
         out, said = self.call("follow", "broken.shelf", "broken", "--flat", status=1)
         self.assertEqual(out, "0 first\n")
@@ -62,7 +69,7 @@ class Shelves(Case):
             _, said = self.call("follow", "bad.shelf", "bad", status=1)
             self.assertIn("not a shelf at 0", said)
 
-    def test_shelves_of_one_name_and_shelves_that_were_made_anew(self):
+    def test_shelves_of_one_name_and_shelves_that_were_made_anew(self) -> None:
         for place in ("a", "b"):
             os.mkdir(place)
             write(f"{place}/week.shelf", shelf_of([added(0, text_file(b"name", place.encode()))]))
@@ -74,13 +81,13 @@ class Shelves(Case):
         out, _ = self.call("follow", "a/week.shelf", "both")
         self.assertTrue(out.endswith("/week-3-000000-new\n"), out)
 
-    def test_a_folder_of_shelves(self):
+    def test_a_folder_of_shelves(self) -> None:
         folder_of_shelves("many")
         self.call("follow", "many", "many-files", "--flat")
         self.assertEqual(sorted(taken("many-files")), ["one", "two"])
 
-    def test_many_files_in_time(self):
-        def body(number):
+    def test_many_files_in_time(self) -> None:
+        def body(number: Any) -> Any:
             return text_file(b"NAME_%d.TXT" % number, bytes([number % 251]) * 200)
 
         write("many.shelf", shelf_of([added(it, body(it), it % 64) for it in range(MANY_FILES)]))
@@ -96,7 +103,7 @@ class Shelves(Case):
 class Later(Case):
     """Files that are discarded after they were taken, that someone took away, and names that others took."""
 
-    def test_what_is_discarded_moves_aside(self):
+    def test_what_is_discarded_moves_aside(self) -> None:
         writer = Writer("later.shelf")
         for number in range(3):
             writer.append(added(number, text_file(b"same", b"%d" % number)))
@@ -116,7 +123,7 @@ class Later(Case):
         found = (out, read("later/4-same"), read("later/later-000004-same"))
         self.assertEqual(found, ("4 later-000004-same~2\n", b"mine", b"mine"))
 
-    def test_the_name_of_any_file_is_found_in_a_long_log(self):
+    def test_the_name_of_any_file_is_found_in_a_long_log(self) -> None:
         writer = Writer("long.shelf")
         count = 9000
         for number in range(count):
@@ -130,7 +137,7 @@ class Later(Case):
         wanted = [f"{it} discarded/{it:06d}" for it in numbers] + [f"{count} {count:06d}"]
         self.assertEqual(out.splitlines(), wanted)
 
-    def test_a_log_of_an_earlier_version_goes_on(self):
+    def test_a_log_of_an_earlier_version_goes_on(self) -> None:
         """Its lines have no sum of the file."""
         writer = Writer("log.shelf")
         for number in range(3):
@@ -149,7 +156,7 @@ class Later(Case):
 
 
 class Watching(Case):
-    def test_new_shelves_a_second_process_and_the_status(self):
+    def test_new_shelves_a_second_process_and_the_status(self) -> None:
         folder_of_shelves("watched")
         process = start("follow", "watched", "all", "--flat", "--watch")
         wait_for(lambda: len(taken("all")) == 2)
@@ -160,7 +167,7 @@ class Watching(Case):
         self.assertEqual(ended(process), 0)
         self.assertEqual(sorted(taken("all")), ["one", "three", "two"])
 
-    def test_three_shelves_in_one_place_one_after_another(self):
+    def test_three_shelves_in_one_place_one_after_another(self) -> None:
         process = start("follow", "anew.shelf", "anew", "--watch")
         for text in (b"one", b"two", b"three"):
             if os.path.exists("anew.shelf"):
@@ -173,7 +180,7 @@ class Watching(Case):
 
 
 class Outside(Case):
-    def test_a_reader_that_goes_away_takes_no_file_away(self):
+    def test_a_reader_that_goes_away_takes_no_file_away(self) -> None:
         write("pipe.shelf", shelf_of([added(it, text_file(b"%d" % it)) for it in range(5000)]))
         process = start("follow", "pipe.shelf", "pipe", "--flat")
         process.stdout.close()
@@ -183,10 +190,10 @@ class Outside(Case):
         self.call("follow", "pipe.shelf", "pipe", "--flat")
         self.assertEqual(len(taken("pipe")), 5000)
 
-    def test_where_a_file_cannot_be_written_nothing_of_it_stands(self):
+    def test_where_a_file_cannot_be_written_nothing_of_it_stands(self) -> None:
         write("full.shelf", shelf_of([added(0, text_file(b"small")), added(1, text_file(b"large", bytes(500_000)))]))
 
-        def small():
+        def small() -> None:
             resource.setrlimit(resource.RLIMIT_FSIZE, (100_000, 100_000))
 
         command = [*COMMAND, "follow", "full.shelf", "full", "--flat"]
@@ -199,16 +206,20 @@ class Outside(Case):
         self.assertEqual(sorted(taken("full")), ["large", "small"])
 
 
+def days_of(folder: Any) -> Any:
+    return sorted(it.split("/")[0] for it in taken(folder))
+
+
 class Wishes(Case):
     """What is taken, under which names, and what is done then."""
 
-    def setUp(self):
+    def setUp(self) -> None:
         super().setUp()
         names = (b"OR_ABI-C13_0.lrit", b"OR_ABI-C02_0.lrit", b"A_BULLETIN.TXT.lrit")
         items = [added(it, text_file(name, name), 1, 300 + it) for it, name in enumerate(names)]
         write("one.shelf", shelf_of(items))
 
-    def test_only_some(self):
+    def test_only_some(self) -> None:
         self.call("follow", "one.shelf", "a", "--flat", "--only", "OR_ABI*", "--only", "nothing")
         self.assertEqual(sorted(taken("a")), ["OR_ABI-C02_0.lrit", "OR_ABI-C13_0.lrit"])
         self.call("follow", "one.shelf", "b", "--flat", "--application", "302", "--application", "300")
@@ -218,14 +229,15 @@ class Wishes(Case):
         self.assertIn(" unwanted -\n", read("c/.follow/one.log").decode())
         self.call("follow", "one.shelf", "a", "--application", "x", status=2)
 
-    def test_names_by_a_template(self):
+    def test_names_by_a_template(self) -> None:
         self.call("follow", "one.shelf", "a", "--name", "{channel}/{application}/{label}-{number}-{stamp}-{annotation}")
         self.assertIn("1/300/one-000000-unstamped-OR_ABI-C13_0.lrit", taken("a"))
         self.call("follow", "one.shelf", "b", "--name", "x")
         self.assertEqual(sorted(taken("b")), ["x", "x~2", "x~3"])
 
-    def test_two_receivers_by_a_label(self):
-        os.mkdir("first"), os.mkdir("second")
+    def test_two_receivers_by_a_label(self) -> None:
+        os.mkdir("first")
+        os.mkdir("second")
         for place, origin in (("first", (0, 0, 0)), ("second", (7, 9, 3))):
             write(f"{place}/2026-11-30.shelf", shelf_of([added(0, text_file(b"same"), 1, 100, origin)]))
             self.call("follow", place, "both", "--label", place)
@@ -235,7 +247,7 @@ class Wishes(Case):
         self.assertEqual(rows[0][-1], rows[1][-1], "the sum of the file is the same")
         self.assertNotEqual(rows[0][-3], rows[1][-3], "that of the item isn't")
 
-    def test_a_command_for_each_file_that_stands(self):
+    def test_a_command_for_each_file_that_stands(self) -> None:
         write("tool.sh", b'#!/bin/sh\n[ -f "$1" ] && echo "$#: $1" >> ran\n[ "$1" != a/3-x ]\n')
         os.chmod("tool.sh", 0o755)
         out, _ = self.call("follow", "one.shelf", "a", "--flat", "--run", "./tool.sh")
@@ -251,19 +263,47 @@ class Wishes(Case):
         self.assertIn("No such file", said)
         self.assertEqual(len(taken("d")), 3)
 
-    def test_old_days_go(self):
+    def test_old_days_go(self) -> None:
         self.call("follow", "one.shelf", "a")
         for name in ("2020-01-01", "2020-01-02-mine", "2020"):
             os.mkdir(f"a/{name}")
             write(f"a/{name}/x", b"x")
         os.symlink("../../in", "a/2020-01-03")
-        _, said = self.call("follow", "one.shelf", "a", "--keep-days", "30")
+        _, said = self.call("follow", "one.shelf", "a", "--keep-days", "2")
+        self.assertEqual(said, "")
+        _, said = self.call("follow", "one.shelf", "a", "--keep-days", "1")
         self.assertIn("removed a/2020-01-01", said)
         left = sorted(it for it in os.listdir("a") if not it.startswith("."))
         self.assertEqual(left[:3], ["2020", "2020-01-02-mine", "2020-01-03"])
         self.assertEqual(len(left), 4)
+        for words in (("--flat",), ("--name", "{label}/{day}")):
+            _, said = self.call("follow", "one.shelf", "b", "--keep-days", "1", *words, status=2)
+            self.assertIn("--keep-days", said)
 
-    def test_memory_does_not_grow_with_the_files_seen(self):
+    def test_a_log_goes_with_its_shelf(self) -> None:
+        folder_of_shelves("shelves")
+        out, _ = self.call("follow", "shelves", "a", "--quiet")
+        self.assertEqual((out, logs_of("a")), ("2 files\n", ["one.log", "two.log"]))
+        os.unlink("shelves/one.shelf")
+        out, _ = self.call("follow", "shelves", "a", "--quiet")
+        self.assertEqual((out, logs_of("a"), len(taken("a"))), ("", ["two.log"], 2))
+
+    def test_the_day_of_a_file(self) -> None:
+        """That of its stamp where that may be right, or else that of the shelf: as its name says, or its last
+        change."""
+        near, far, hostile = (stamp(days, 0) for days in (25_169, 25_140, 65_000))
+        files = [named(b"F%d" % it, 2, b"x", *more) for it, more in enumerate([(), (near,), (far,), (hostile,)])]
+        data = shelf_of([added(it, file) for it, file in enumerate(files)])
+        write("2026-11-30.shelf", data)
+        self.call("follow", "2026-11-30.shelf", "a")
+        self.assertEqual(days_of("a"), ["2026-11-29", "2026-11-30", "2026-11-30", "2026-11-30"])
+        write("mine.shelf", data)
+        then = 1_796_040_000  # (2026-11-30)
+        os.utime("mine.shelf", (then, then))
+        self.call("follow", "mine.shelf", "b", "--name", "{day}/{stamp}")
+        self.assertEqual(days_of("b"), ["2026-10-31", "2026-11-29", "2026-11-30", "2026-11-30"])
+
+    def test_memory_does_not_grow_with_the_files_seen(self) -> None:
         """100,000 files that were taken, and the peak of a second call."""
         count = 100_000
         item = added(0, text_file(b"name"))

@@ -6,6 +6,9 @@ import shutil
 import struct
 import subprocess
 import zlib
+from typing import Any
+
+from gomtasil import geo
 
 from .support import (
     Case,
@@ -19,6 +22,7 @@ from .support import (
     read,
     record,
     shelf_of,
+    stamp,
     write,
 )
 
@@ -26,7 +30,7 @@ FACTOR = 2_000_000
 METRES = 35785831.0 * math.pi / 180 * 65536 / FACTOR
 
 
-def tags_of(path):
+def tags_of(path: Any) -> Any:
     """The tags of a TIFF with the least significant byte first, and what its one strip has."""
     data = read(path)
     head, at = struct.unpack("<4sI", data[:8])
@@ -44,7 +48,7 @@ def tags_of(path):
 
 @needs_pillow
 class Placed(Case):
-    def setUp(self):
+    def setUp(self) -> None:
         super().setUp()
         self.values = bytes(range(40))
         longitude = navigation(-75.2, FACTOR, 4, 3)
@@ -59,11 +63,11 @@ class Placed(Case):
         ]
         write("places.shelf", shelf_of([added(number, it) for number, it in enumerate(files)]))
 
-    def near(self, tags, left, top):
+    def near(self, tags: Any, left: Any, top: Any) -> None:
         found = [tags[33550][0], tags[33922][3], tags[33922][4]]
         self.assertTrue(all(abs(a - b) < 1e-6 for a, b in zip(found, (METRES, left * METRES, top * METRES))), found)
 
-    def test_files_alone(self):
+    def test_files_alone(self) -> None:
         for number in (0, 1):
             self.call("geo", "places.shelf", str(number), f"{number}.tif", "--alone")
             tags, data = tags_of(f"{number}.tif")
@@ -82,12 +86,12 @@ class Placed(Case):
             self.assertIn("+proj=geos +lon_0=-75.2 +h=35785831", told)
             self.assertIn("+rf=295.488065897", told)
             self.assertIn("Size is 8, 5", told)
-            words = ["gdal_translate", "-q", "-of", "ENVI", f"{number}.tif", f"{number}.raw"]
-            subprocess.run(words, check=True, capture_output=True)
+            call = ["gdal_translate", "-q", "-of", "ENVI", f"{number}.tif", f"{number}.raw"]
+            subprocess.run(call, check=True, capture_output=True)
             pixels = [it for (it,) in struct.iter_unpack("<H" if number else "B", read(f"{number}.raw"))]
             self.assertEqual(pixels, [it * (25 if number else 1) for it in self.values])
 
-    def test_the_joined_image(self):
+    def test_the_joined_image(self) -> None:
         """Of any of its segments, whether the line offset counts in the whole image or in the segment."""
         parts = [bytes(range(40)), bytes(range(40, 80))]
         whole = [
@@ -113,12 +117,70 @@ class Placed(Case):
                 self.assertEqual((tags[256][0], tags[257][0], data), (8, 10, b"".join(parts)))
                 self.near(tags, -3.5, 2.5)
 
+    def test_what_was_not_sent_is_no_data(self) -> None:
+        more = [navigation(-75.2, FACTOR, 4, 3), noaa(1, 1, 5, 2, 8, 10), stamp(23376, 45_296_000)]
+        write("half.shelf", shelf_of([added(0, image(8, 8, 5, self.values, 0, more))]))
+        self.call("geo", "half.shelf", "0", "half.tif")
+        tags, data = tags_of("half.tif")
+        pixels = struct.unpack("<80H", data)
+        self.assertEqual(pixels, (65535,) * 40 + tuple(self.values))
+        self.assertEqual((tags[42113], tags[306]), ((b"65535\0",), (b"2022:01:01 12:34:56\0",)))
+
+
+CITIES = {
+    "Miami": (-80.19, 25.76),
+    "Brasilia": (-47.88, -15.79),
+    "Kansas City": (-94.58, 39.1),
+    "Dakar": (-17.45, 14.69),
+    "Seattle": (-122.33, 47.61),
+}
+KILOMETRE = 1000.0
+
+
+class Grids(Case):
+    """Cities lie where PROJ puts them, in both grids."""
+
+    def test_cities_lie_where_proj_puts_them(self) -> None:
+        try:
+            from pyproj import Proj
+        except ImportError:
+            self.skipTest("pyproj is missing")
+        for grid, words in (
+            (geo.ABI, "+ellps=GRS80 +h=35786023 +sweep=x"),
+            (geo.CGMS, "+a=6378169 +b=6356583.8 +h=35785831 +sweep=y"),
+        ):
+            project = Proj(f"+proj=geos +lon_0=-75.2 {words}")
+            placement = geo.Placement(-75.2, FACTOR, FACTOR, 0, 0, 0, grid)
+            metres = grid.height * math.pi / 180 * 65536 / FACTOR
+            for city, place in CITIES.items():
+                found = placement.pixel_of(*place)
+                assert found
+                east, north = project(*place)
+                off = math.dist((east, -north), [(it + 1) * metres for it in found])
+                self.assertLess(off, 0.3 * KILOMETRE, city)
+        self.assertIsNone(geo.Placement(-75.2, FACTOR, FACTOR, 0, 0, 0, geo.ABI).pixel_of(104.8, 0))
+
+    @needs_pillow
+    def test_images_of_abi_sweep_about_x(self) -> None:
+        name = b"OR_ABI-L2-CMIPF-M6C13_G16_s20260011200_e20260011209_c20260011209.lrit"
+        place = navigation(-75.2, FACTOR, 4, 3)
+        files = [image(8, 8, 5, bytes(40), 0, [record(4, it), place]) for it in (name, b"E_1")]
+        write("two.shelf", shelf_of([added(number, it) for number, it in enumerate(files)]))
+        sweeps = {(0, ()): b"x", (1, ()): b"y", (0, ("--sweep", "y")): b"y", (1, ("--sweep", "x")): b"x"}
+        for (number, words), sweep in sweeps.items():
+            self.call("geo", "two.shelf", str(number), "it.tif", *words)
+            citation = read("it.tif").count(b'PARAMETER["Option",1.0]'), read("it.tif").count(b"GRS80")
+            self.assertEqual(all(citation), sweep == b"x")
+            if shutil.which("gdalinfo"):
+                told = subprocess.run(["gdalinfo", "-proj4", "it.tif"], capture_output=True).stdout
+                self.assertEqual(b"+sweep=x" in told, sweep == b"x", told)
+
 
 @needs_pillow
 class Overlay(Case):
     """Lines over an image lie where its GeoTIFF says, by GDAL's own projection."""
 
-    def setUp(self):
+    def setUp(self) -> None:
         super().setUp()
         side, self.factor = 400, round(400 / 17.8 * 65536)
         pixels = bytes(side * side)
@@ -137,7 +199,7 @@ class Overlay(Case):
         ]
         write("globe.shelf", shelf_of([added(it, file) for it, file in enumerate(files)]))
 
-    def test_a_line_lies_where_gdal_puts_it(self):
+    def test_a_line_lies_where_gdal_puts_it(self) -> None:
         from PIL import Image
 
         places = [(-75.2, 0), (-75.2, 40), (-40, 10), (-110, -30), (-20, 5), (-60, -55)]
@@ -165,7 +227,7 @@ class Overlay(Case):
             self.assertTrue(near, f"something is drawn at {x} {y}")
         self.assertLessEqual(len(drawn), 4 * len(places), "nothing is drawn behind the limb")
 
-    def test_coasts_of_gmt(self):
+    def test_coasts_of_gmt(self) -> None:
         from PIL import Image
 
         if not shutil.which("gmt"):
@@ -178,7 +240,7 @@ class Overlay(Case):
             all((x - 199) ** 2 + (y - 199) ** 2 < 198**2 for x, y in drawn), "nothing lies beside the earth"
         )
 
-    def test_without_gmt(self):
+    def test_without_gmt(self) -> None:
         _, said = self.call("overlay", "globe.shelf", "0", "x.png", status=1, env={**os.environ, "PATH": "/nowhere"})
         self.assertIn("apt-get install gmt", said)
         self.assertFalse(os.path.exists("x.png"))

@@ -8,8 +8,10 @@ import signal
 import subprocess
 import sys
 import time
+from typing import Any
 
 from .support import (
+    match,
     COMMAND,
     HAS_JINJA,
     HAS_PILLOW,
@@ -57,7 +59,7 @@ runpy.run_path(script, run_name="__main__")
 """
 
 
-def watched(place, folder, *words):
+def watched(place: Any, folder: Any, *words: Any) -> Any:
     """The status of the command, stopped before a call on the folder: that of this place, or the first of this name."""
     script = [sys.executable, "-c", WATCHED, COMMAND[-1], str(place), folder, *words]
     return subprocess.run(script, capture_output=True).returncode
@@ -66,18 +68,19 @@ def watched(place, folder, *words):
 class AtEachCall(Case):
     """Stopped before each of its calls on the folder, and again."""
 
-    def test_follow(self):
+    def test_follow(self) -> None:
         self.stop_at_each("follow", lambda number: 1)
 
     @needs_pillow
-    def test_contents(self):
+    def test_contents(self) -> None:
         self.stop_at_each("contents", lambda number: 2 if number == 3 else 1)
 
-    def stop_at_each(self, command, count_of):
+    def stop_at_each(self, command: Any, count_of: Any) -> None:
         files = [text_file(b"name-%d" % it, b"%d" % it) for it in range(3)]
         files.append(proper(2, [record(4, b"zip")], zip_of(("a.txt", b"0"), ("b.txt", b"1"))))
         wanted = sorted(it for it in (0, 2, 3, 4) for _ in range(count_of(it)))
-        place, codes = 0, []
+        place = 0
+        codes: list[int] = []
         while codes != [0, 0]:
             place += 1
             folder = f"point-{command}-{place}"
@@ -92,7 +95,7 @@ class AtEachCall(Case):
             self.assertLessEqual(set(codes), {0, 137})
             self.call(command, "point.shelf", folder)
             found = taken(folder)
-            numbers = sorted(int(re.search(r"point-(\d+)-", it)[1]) for it in found if not it.startswith("discarded"))
+            numbers = sorted(int(match(r"point-(\d+)-", it)[1]) for it in found if not it.startswith("discarded"))
             self.assertEqual(numbers, wanted, f"stopped before call {place}")
             aside = [path for path in found if path.startswith("discarded/")]
             self.assertLessEqual(len(aside), 1)
@@ -100,7 +103,7 @@ class AtEachCall(Case):
         print(f"{command}: {place} calls at which it was stopped")
 
     @needs_pillow
-    def test_pictures(self):
+    def test_pictures(self) -> None:
         files = [image(8, 4, 4, bytes([it] * 16), 0, [record(4, b"IMAGE_%d" % it)]) for it in range(3)]
         write("drawn.shelf", shelf_of([added(it, file) for it, file in enumerate(files)]))
         self.call("pictures", "drawn.shelf", "whole")
@@ -115,7 +118,7 @@ class AtEachCall(Case):
 
 
 class TornLog(Case):
-    def test_a_stop_in_the_write_of_the_log_after_any_of_its_bytes(self):
+    def test_a_stop_in_the_write_of_the_log_after_any_of_its_bytes(self) -> None:
         write("torn.shelf", shelf_of([added(it, text_file(b"name-%d" % it, b"%d" % it)) for it in range(4)]))
         self.assertEqual(watched("os.link", "torn", "follow", "torn.shelf", "torn"), 137)
         log = read("torn/.follow/torn.log")
@@ -129,7 +132,7 @@ class TornLog(Case):
             self.assertEqual(names, [f"{it:06d}-name-{it}" for it in range(4)], f"a log of {size} bytes")
             self.assertTrue(has_no_rest(folder))
 
-    def test_a_stop_before_any_of_many_names_is_given(self):
+    def test_a_stop_before_any_of_many_names_is_given(self) -> None:
         count = 3000
         write("torn.shelf", shelf_of([added(it, text_file(b"name")) for it in range(count)]))
         self.assertEqual(watched("os.link", "torn", "follow", "torn.shelf", "torn", "--name", "{number}"), 137)
@@ -139,7 +142,7 @@ class TornLog(Case):
         self.assertLess(time.monotonic() - begun, 30)
         self.assertEqual(sorted(taken("torn")), [f"{it:06d}" for it in range(count)])
 
-    def test_a_log_that_is_none(self):
+    def test_a_log_that_is_none(self) -> None:
         write("torn.shelf", shelf_of([added(0, text_file(b"name"))]))
         os.makedirs("torn/.follow")
         for data in (b"x\n", b'"/a"\nfile x\n', b"\xff\xff\n", b'"/a"\n' + b"x" * 100 + b"\n", b"7\n"):
@@ -151,20 +154,21 @@ class TornLog(Case):
 class AtDrawnMoments(Case):
     """follow --watch beside a receiver at work, killed at drawn moments, by SIGKILL and by other signals."""
 
-    def setUp(self):
+    def setUp(self) -> None:
         super().setUp()
         self.draws = random.Random(56)
         self.writer = Writer("drawn.shelf")
-        self.sent, self.seen = [], {}
+        self.sent: list[Any] = []
+        self.seen: dict[Any, Any] = {}
 
-    def work(self, until):
+    def work(self, until: Any) -> None:
         while time.monotonic() < until:
             body = self.draws.randbytes(self.draws.choice((10, 500, 20_000)))
             self.sent.append(text_file(b"drawn %d" % len(self.sent), body))
             self.writer.append(added(len(self.sent) - 1, self.sent[-1]), self.draws.choice((1, 2, 5)))
             time.sleep(self.draws.random() * 0.004)
 
-    def look(self):
+    def look(self) -> None:
         """Each file is whole and has come once; some are taken away."""
         for path, data in taken("drawn").items():
             number = number_in(path)
@@ -174,7 +178,7 @@ class AtDrawnMoments(Case):
                 os.unlink(os.path.join("drawn", path))
                 self.seen[number] = None
 
-    def end(self, process, what):
+    def end(self, process: Any, what: Any) -> None:
         """Ends it by a signal. (Python loses an interrupt that comes while it starts, so that one may come again.)"""
         process.send_signal(what)
         try:
@@ -184,7 +188,7 @@ class AtDrawnMoments(Case):
             process.send_signal(what)
             process.communicate(timeout=SECONDS)
 
-    def test_each_file_comes_once(self):
+    def test_each_file_comes_once(self) -> None:
         kinds = (signal.SIGKILL, signal.SIGKILL, signal.SIGKILL, signal.SIGTERM, signal.SIGINT)
         for _ in range(KILLS):
             process = start("follow", "drawn.shelf", "drawn", "--watch")
@@ -205,11 +209,11 @@ class AtDrawnMoments(Case):
 class BySignals(Case):
     """A signal in the middle leaves nothing half, and no scratch; and then the rest comes, each file once."""
 
-    def test_each_command(self):
+    def test_each_command(self) -> None:
         zips = [named(b"zip", 2, zip_of((f"{it}.txt", os.urandom(40_000)), ("b.txt", b"x"))) for it in range(60)]
         images = [image(8, 600, 400, os.urandom(240_000), 0, [record(4, b"image")]) for _ in range(12)]
         write("signals.shelf", shelf_of([added(number, it) for number, it in enumerate(zips + images)]))
-        counts = {"follow": len(zips) + len(images)}
+        counts: dict[str, int | None] = {"follow": len(zips) + len(images)}
         if HAS_PILLOW:
             counts |= {"contents": 2 * len(zips) + len(images), "pictures": len(images)}
         if HAS_PILLOW and HAS_JINJA:
@@ -225,7 +229,7 @@ class BySignals(Case):
                     self.assertEqual(len(taken(folder)), count, f"{folder}: each came once")
         self.assertEqual(os.listdir("scratch"), [])
 
-    def interrupt(self, command, folder, what, seconds):
+    def interrupt(self, command: Any, folder: Any, what: Any, seconds: Any) -> None:
         """A command that a signal ends after so many seconds. No part is left."""
         process = start(command, "signals.shelf", folder, env={**os.environ, "TMPDIR": os.path.abspath("scratch")})
         time.sleep(seconds)
@@ -240,13 +244,14 @@ class BySignals(Case):
 
 @needs_program
 class BesideTheReceiver(Case):
-    def test_each_file_comes_as_it_is_received(self):
+    def test_each_file_comes_as_it_is_received(self) -> None:
         frames = station("-", "make", "1", "1024", "0", "--output", "frames")
         station("live.shelf", "init", "10000000")
         follower = start("follow", "live.shelf", "live", "--watch")
         words = [PROGRAM, "live.shelf", "receive", "--input", "frames"]
         receiver = subprocess.Popen(words, stdin=subprocess.PIPE, stdout=subprocess.PIPE)
         for at in range(0, len(frames), 16 * 892):
+            assert receiver.stdin
             receiver.stdin.write(frames[at : at + 16 * 892])
             receiver.stdin.flush()
             time.sleep(0.03)

@@ -2,6 +2,7 @@
 
 import os
 import re
+from typing import Any
 
 from .support import HAS_PILLOW, Case, added, needs_pillow, read, shelf_of, taken, text_file, tree, write
 
@@ -72,14 +73,14 @@ CALLS += [("contents", "--flat"), ("contents", "--name", "{annotation}")]
 
 
 class Names(Case):
-    def test_each_is_one_of_its_own_and_nothing_else_is_touched_or_run(self):
+    def test_each_is_one_of_its_own_and_nothing_else_is_touched_or_run(self) -> None:
         items = [added(number, text_file(name, b"text %d" % number)) for number, name in enumerate(NAMES)]
         write("names.shelf", shelf_of(items))
         for command, *words in CALLS if HAS_PILLOW else CALLS[:3]:
             with self.subTest(command=command, words=words):
                 self.take(command, words)
 
-    def take(self, command, words):
+    def take(self, command: Any, words: Any) -> None:
         folder = f"names-{command}{len(words)}{''.join(words)[:6]}"
         before = tree("..")
         out, _ = self.call(command, "names.shelf", folder, *words)
@@ -98,7 +99,7 @@ class Names(Case):
         self.assertEqual(sorted(told), sorted(found))
         self.assertEqual(self.call(command, "names.shelf", folder, *words)[0], "", "nothing is taken again")
 
-    def test_templates_have_known_placeholders_alone(self):
+    def test_templates_have_known_placeholders_alone(self) -> None:
         write("names.shelf", shelf_of([added(0, text_file(b"name"))]))
         for text in ("", "/x", "{other}", "{label.__class__}", "{label[0]}", "{", "{}"):
             self.call("follow", "names.shelf", "folder", "--name", text, status=2)
@@ -106,7 +107,7 @@ class Names(Case):
         (path,) = taken("folder")
         self.assertTrue(re.fullmatch(r"_\./x/_?[0-9_-]+/000000", path), path)
 
-    def test_paths_may_be_options_have_spaces_or_be_no_text(self):
+    def test_paths_may_be_options_have_spaces_or_be_no_text(self) -> None:
         items = shelf_of([added(0, text_file(b"name"))])
         places = [
             (b"-shelf", b"-folder"),
@@ -125,7 +126,7 @@ class Names(Case):
             self.call("plain", shelf, "0", folder + b"plain")
             self.assertEqual(read(folder + b"plain"), text_file(b"name"))
 
-    def test_wrong_words(self):
+    def test_wrong_words(self) -> None:
         write("-shelf", shelf_of([]))
         write("stands", b"x")
         wrong = [
@@ -145,7 +146,7 @@ class Names(Case):
         self.assertEqual(read("stands"), b"x", "a file in the place of the folder")
 
     @needs_pillow
-    def test_pictures_keep_to_their_folder(self):
+    def test_pictures_keep_to_their_folder(self) -> None:
         from .support import image, record
 
         items = [

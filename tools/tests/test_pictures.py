@@ -3,6 +3,7 @@
 import io
 import os
 import re
+from typing import Any
 
 from gomtasil import xrit
 
@@ -22,8 +23,8 @@ from .support import (
     planned,
     proper,
     read,
-    record,
     reference,
+    record,
     shelf_of,
     stamp,
     station,
@@ -35,7 +36,7 @@ from .test_names import NAMES
 STAMP, STAMPED = stamp(21915, 32420995), "20180101T090020Z"  # 1 January 2018, 09:00:20.995
 
 
-def title(name, number, stamped=True):
+def title(name: Any, number: Any, stamped: Any = True) -> Any:
     name = re.sub(r"\.lrit$", "", re.sub(rb"[^A-Za-z0-9._-]", b"_", name or b"")[:150].decode())
     return (f"{STAMPED}-" if stamped else "") + (re.sub(r"^[.-]", "_", name) or "image") + f"@pictures.{number}"
 
@@ -43,29 +44,42 @@ def title(name, number, stamped=True):
 class Files:
     """Files in their order, and the pictures that are to come of them: size, bits, and the values of pixels."""
 
-    def __init__(self):
-        self.items, self.first, self.both = [], {}, {}
+    def __init__(self) -> None:
+        self.items: list[bytes] = []
+        self.first: dict[str, Any] = {}
+        self.both: dict[str, Any] = {}
 
-    def add(self, name, bits, columns, lines, data, *more, stamped=True, compression=0, application=100):
+    def add(
+        self,
+        name: Any,
+        bits: Any,
+        columns: Any,
+        lines: Any,
+        data: Any,
+        *more: Any,
+        stamped: Any = True,
+        compression: Any = 0,
+        application: Any = 100,
+    ) -> Any:
         records = [] if name is None else [record(4, name)]
         records += ([STAMP] if stamped else []) + list(more)
         number = len(self.items)
         self.items.append(added(number, image(bits, columns, lines, data, compression, records), 1, application))
         return number
 
-    def wanted(self, name, columns, lines, bits, values, is_late=False):
+    def wanted(self, name: Any, columns: Any, lines: Any, bits: Any, values: Any, is_late: Any = False) -> None:
         if not is_late:
             self.first[name] = (columns, lines, bits, list(values))
         self.both[name] = (columns, lines, bits, list(values))
 
-    def odd_names(self):
+    def odd_names(self) -> None:
         more = [b"x@pictures.0", b"x\nrecord 4 length 9 text forged", b"* ? [a]", b"name.png"]
         for place, name in enumerate([*NAMES, *more]):
             stamped = place % 3 > 0
             values = bytes([place % 256, 2, 3, 4])
             self.wanted(title(name, self.add(name, 8, 2, 2, values, stamped=stamped), stamped), 2, 2, 8, values)
 
-    def himawari(self):
+    def himawari(self) -> Any:
         """Two channels of three segments in turn, of 16 bits; of the latter the second one comes late."""
         rows = {(band, number): [256 * band + number] * 4 for band in (13, 14) for number in (1, 2, 3)}
         numbers = {}
@@ -80,12 +94,12 @@ class Files:
         self.both[lacking] = (2, 6, 16, whole[13])
         return rows
 
-    def himawari_segment(self, rows, band, number):
+    def himawari_segment(self, rows: Any, band: Any, number: Any) -> Any:
         name = b"IMG_DK01B%d_201801010900_%03d" % (band, number)
         data = b"".join(big(2, it) for it in rows[band, number])
         return self.add(name, 16, 2, 2, data, numbered(number, 3, 2 * number - 1))
 
-    def elektro(self):
+    def elektro(self) -> None:
         """Three segments of 4 columns, 1 line and 10 bits, numbered from 5 on; the last one comes first."""
         values, told = {5: [1, 2, 3, 1023], 6: [512, 0, 7, 9], 7: [4, 4, 4, 4]}, ""
         for number in (7, 5, 6):
@@ -94,7 +108,7 @@ class Files:
             told = title(name, made) if number == 7 else told
         self.wanted(told, 4, 3, 10, values[5] + values[6] + values[7])
 
-    def goes(self):
+    def goes(self) -> None:
         """Four segments of NOAA's form, of which the third never comes; a place that no segment covers is black."""
         told = ""
         for number in (0, 1, 3):
@@ -104,7 +118,7 @@ class Files:
             told = title(b"OR_ABI_0.lrit", made) if number == 0 else told
         self.wanted(f"{told}-lacks-1", 3, 4, 8, [1, 1, 1, 2, 2, 2, 0, 0, 0, 4, 4, 4])
 
-    def odd_segments(self):
+    def odd_segments(self) -> None:
         """A number past the count, a range that ends before it begins, a count that is too large, and a whole that is:
         each is a picture of its own."""
         odd = [(numbered(9, 3, 1), 2, 1), (planned(1, 3, 4, 2), 2, 1), (planned(1, 2, 0, 65535), 2, 1)]
@@ -112,7 +126,7 @@ class Files:
             name, values = b"odd_%d" % place, bytes([place + 7]) * (columns * lines)
             self.wanted(title(name, self.add(name, 8, columns, lines, values, part)), columns, lines, 8, values)
 
-    def two_of_one_name(self):
+    def two_of_one_name(self) -> None:
         """Two channels whose segments have one name but for the application, as some senders name them."""
         for number in (1, 2):
             for application in (301, 302):
@@ -123,7 +137,7 @@ class Files:
                 if number == 1:
                     self.wanted(title(b"SAME_001", made), 2, 2, 8, [application % 256, 1, application % 256, 2])
 
-    def others(self):
+    def others(self) -> None:
         """An image as JPEG that is none, one that ends early, one without a structure, and a text."""
         self.add(b"wavelets", 8, 2, 2, b"\xff\x4f\xff", compression=2)
         self.add(b"short", 8, 200, 200, b"short")
@@ -131,7 +145,7 @@ class Files:
         self.items.append(added(len(self.items), proper(2, [record(4, b"text")], b"text")))
 
 
-def found_in(folder):
+def found_in(folder: Any) -> Any:
     """The pictures of a folder, by their names: size, bits and values as they were before they were scaled."""
     found = {}
     for path, data in taken(folder).items():
@@ -143,7 +157,7 @@ def found_in(folder):
 
 @needs_pillow
 class Pictures(Case):
-    def test_names_segments_and_what_comes_late(self):
+    def test_names_segments_and_what_comes_late(self) -> None:
         files = Files()
         for part in (
             files.odd_names,
@@ -170,7 +184,7 @@ class Pictures(Case):
         self.assertEqual(found_in("drawn"), files.both)
         self.assertEqual(len(out.splitlines()), 1)
 
-    def test_one_bad_record_hides_nothing_else(self):
+    def test_one_bad_record_hides_nothing_else(self) -> None:
         items = [added(it, image(8, 2, 2, bytes([it] * 4), 0, [record(4, b"I%d" % it)])) for it in range(3)]
         bad = bytearray(items[1])
         bad[-5] ^= 1
@@ -182,10 +196,10 @@ class Pictures(Case):
         out, _ = self.call("pictures", "broken.shelf", "drawn")
         self.assertEqual(len(out.splitlines()), 3, "what stands before a break is drawn")
 
-    def test_shelves_of_a_folder_and_words(self):
+    def test_shelves_of_a_folder_and_words(self) -> None:
         os.mkdir("many")
         _, said = self.call("pictures", "many", "drawn", status=1)
-        self.assertIn("there is no shelf", said)
+        self.assertIn("no shelf yet", said)
         for name in ("one", "two"):
             write(f"many/{name}.shelf", shelf_of([added(0, image(8, 1, 1, b"x"))]))
         out, _ = self.call("pictures", "many", "drawn")
@@ -193,7 +207,7 @@ class Pictures(Case):
         self.call("pictures", "nowhere.shelf", "drawn", status=1)
         self.call("pictures", "many", status=2)
 
-    def test_many_missing_segments_are_few_words(self):
+    def test_many_missing_segments_are_few_words(self) -> None:
         item = added(0, image(8, 1, 1, b"x", 0, [noaa(1, 0, 0, 65535, 1, 65535)]))
         write("hole.shelf", shelf_of([item]))
         before = children_seconds()
@@ -203,10 +217,10 @@ class Pictures(Case):
         self.assertLess(len(said), 200)
         self.assertIn("segments missing: 2 to 65535", said)
 
-    def test_strips_of_jpeg_are_joined(self):
+    def test_strips_of_jpeg_are_joined(self) -> None:
         from PIL import Image
 
-        def strip(level):
+        def strip(level: Any) -> Any:
             out = io.BytesIO()
             Image.new("L", (64, 16), level).save(out, "JPEG", quality=95)
             return out.getvalue()
@@ -224,11 +238,11 @@ class Pictures(Case):
             rows = values[64 * 16 * (number - 1) : 64 * 16 * number]
             self.assertTrue(all(abs(it - 60 * number) <= 2 for it in rows))
 
-    def test_where_it_cannot_be_written(self):
+    def test_where_it_cannot_be_written(self) -> None:
         write("full.shelf", shelf_of([added(0, image(8, 300, 300, os.urandom(90000)))]))
         import resource
 
-        def small():
+        def small() -> None:
             resource.setrlimit(resource.RLIMIT_FSIZE, (50_000, 50_000))
 
         from .support import COMMAND
@@ -240,7 +254,7 @@ class Pictures(Case):
         self.assertEqual(len(self.call("pictures", "full.shelf", "drawn")[0].splitlines()), 1)
 
 
-def mended(words):
+def mended(words: Any) -> Any:
     return record(6, b"gomtasil mended " + words)
 
 
@@ -248,11 +262,11 @@ def mended(words):
 class Mended(Case):
     """Files that lacked packets are named so, and a segment that is whole is taken before one that isn't."""
 
-    def segment(self, number, level, *more):
+    def segment(self, number: Any, level: Any, *more: Any) -> Any:
         name = record(4, b"OR_%d.lrit" % number)
         return image(8, 2, 1, bytes([level] * 2), 0, [name, noaa(1, number, number, 2, 2, 2), *more])
 
-    def test_marks(self):
+    def test_marks(self) -> None:
         for words, wanted in (
             (b"2 8-9 of 13", (3, 13)),
             (b"0 of 1", (1, 1)),
@@ -270,7 +284,7 @@ class Mended(Case):
             with self.subTest(words):
                 self.assertEqual(xrit.mended_of(b"gomtasil mended " + words), wanted and xrit.Mended(*wanted))
 
-    def test_names_and_notes(self):
+    def test_names_and_notes(self) -> None:
         old = mended(b"1-9 of 99")
         alone = image(8, 2, 1, b"ab", 0, [record(4, b"ALONE"), old, mended(b"2 8-9 of 13")])
         part = self.segment(0, 1, mended(b"3 of 10"))
@@ -283,7 +297,7 @@ class Mended(Case):
         self.assertEqual(out.splitlines(), wanted)
         self.assertIn("ALONE@m.0-mended-3: mended 3 of 13 packets", said)
 
-    def test_a_whole_segment_is_taken_before_a_mended_one(self):
+    def test_a_whole_segment_is_taken_before_a_mended_one(self) -> None:
         writer = Writer("m.shelf")
         for number, file in enumerate((self.segment(0, 1, mended(b"3 of 10")), self.segment(1, 2))):
             writer.append(added(number, file))
@@ -297,7 +311,7 @@ class Mended(Case):
 
 @needs_pillow
 class Colours(Case):
-    def setUp(self):
+    def setUp(self) -> None:
         super().setUp()
         self.writer = Writer("c.shelf")
         for number, (channel, level) in enumerate(((2, 100), (13, 220), (13, 20))):
@@ -306,7 +320,7 @@ class Colours(Case):
             file = image(8, 4, 4, bytes([level] * 15 + [0]), 0, [record(4, name), when])
             self.writer.append(added(number, file))
 
-    def test_a_table_of_colours(self):
+    def test_a_table_of_colours(self) -> None:
         from PIL import Image
 
         out, _ = self.call("pictures", "c.shelf", "drawn", "--enhance", "*C13*=ir", "--enhance", "*=heat")
@@ -320,7 +334,7 @@ class Colours(Case):
         for word in ("ir", "=ir", "*=other"):
             self.call("pictures", "c.shelf", "drawn", "--enhance", word, status=2)
 
-    def test_false_colours_of_two_channels(self):
+    def test_false_colours_of_two_channels(self) -> None:
         from PIL import Image
 
         out, _ = self.call("pictures", "c.shelf", "drawn", "--false-colour", "*C02*", "*C13*")
@@ -328,7 +342,7 @@ class Colours(Case):
         picture = Image.open(f"drawn/{path}")
         self.assertEqual((picture.getpixel((0, 0)), picture.getpixel((3, 3))), ((100, 100, 220), (0, 0, 0)))
 
-    def test_only_some_and_the_latest(self):
+    def test_only_some_and_the_latest(self) -> None:
         out, _ = self.call("pictures", "c.shelf", "drawn", "--only", "*C13*")
         self.assertEqual(len(out.splitlines()), 2)
         self.assertEqual(os.listdir("drawn/latest"), ["goes-16-full-disk-channel-13.png"])
@@ -348,7 +362,7 @@ class Colours(Case):
 class Coded(Case):
     """Images that are coded without loss come by one call for many, also where one of them can't be read."""
 
-    def test_many_and_one_that_is_damaged_in_itself(self):
+    def test_many_and_one_that_is_damaged_in_itself(self) -> None:
         plain = [image(8, 40, 30, os.urandom(1200), 0, [record(4, b"I%d" % it)]) for it in range(5)]
         write("coded.shelf", shelf_of([added(it, file) for it, file in enumerate(plain)]))
         for number in range(5):
@@ -356,7 +370,8 @@ class Coded(Case):
         # (their items, which keep where each packet ends; one of them says that it has more lines)
         lengths = [int(line.split()[9]) for line in station("coded.shelf", "list").decode().splitlines()[5:10]]
         packets = [int(line.split()[11]) for line in station("coded.shelf", "list").decode().splitlines()[5:10]]
-        data, coded = read("coded.shelf")[:-1], []
+        data = read("coded.shelf")[:-1]
+        coded: list[Any] = []
         for length, count in reversed(list(zip(lengths, packets))):
             size = 38 + 2 * count + length
             data, item = data[: -size - 1], data[-size:]

@@ -4,6 +4,7 @@ import os
 import re
 import subprocess
 import sys
+from typing import Any
 
 from .support import (
     COMMAND,
@@ -20,12 +21,12 @@ from .support import (
 )
 
 
-def drawn():
+def drawn() -> Any:
     return subprocess.run([*COMMAND, "sample"], capture_output=True, check=True).stdout
 
 
 class Sample(Case):
-    def test_frames_and_words(self):
+    def test_frames_and_words(self) -> None:
         frames = drawn()
         self.assertEqual(len(frames), 6789 * 892)
         for words in ("x", "0", "61", "1.5", "-1"):
@@ -33,7 +34,7 @@ class Sample(Case):
 
     @needs_program
     @needs_page
-    def test_what_comes_of_it(self):
+    def test_what_comes_of_it(self) -> None:
         frames = drawn()
         station("first.shelf", "init", "1000000")
         told = station("first.shelf", "receive", "--input", "frames", given=frames).decode().splitlines()
@@ -54,7 +55,7 @@ class Sample(Case):
         self.call("page", "second.shelf", "page")
         page = read("page/index.html").decode()
         self.assertEqual(page.count("<figure>"), 1)
-        self.assertIn("file 1 to 2 4 to 5", page)
+        self.assertIn("files 1-2, 4-5", page)
         self.assertNotIn("segments missing", page)
         self.call("pictures", "second.shelf", "pictures")
         (path,) = taken("pictures")
@@ -69,7 +70,7 @@ class Sample(Case):
 @needs_program
 @needs_page
 class Session(Case):
-    def test_to_the_letter(self):
+    def test_to_the_letter(self) -> None:
         text = read(os.path.join(TOP, "README.md")).decode()
         part = text[text.index("## From symbols to a picture") : text.index("## Receive a recording")]
         steps = re.findall(r"(?m)^    \$ (.*)\n((?:    (?!\$).*\n)*)", part)

@@ -7,6 +7,8 @@ import random
 import shutil
 import subprocess
 import time
+from collections.abc import Iterator
+from typing import Any
 
 from .support import SECONDS, TOP, Case, added, image, named, needs_page, noaa, read, record, shelf_of, stamp, write
 
@@ -23,7 +25,7 @@ TEXTS = (
 VIEWS = (("wide", 1, 1280, 2150), ("dark", 0, 1280, 2150), ("phone", 1, 500, 1500))
 
 
-def segments(pixels, channel, when, number):
+def segments(pixels: Any, channel: Any, when: Any, number: Any) -> Iterator[Any]:
     for part in range(4):
         name = b"OR_ABI-L2-CMIPF-M6%s_G16_s%s_%d.lrit" % (channel.encode(), when.strftime("%Y%j%H%M").encode(), part)
         since = when - BEGIN
@@ -35,7 +37,7 @@ def segments(pixels, channel, when, number):
         yield image(8, SIDE, 160, pixels[SIDE * 160 * part : SIDE * 160 * (part + 1)], 0, records)
 
 
-def day(now):
+def day(now: Any) -> Any:
     """The files of some hours: a full disk in four channels each half hour, and bulletins."""
     from PIL import Image, ImageFilter
 
@@ -64,9 +66,9 @@ def day(now):
 
 @needs_page
 class Screens(Case):
-    def setUp(self):
+    def setUp(self) -> None:
         super().setUp()
-        self.browser = shutil.which("chromium") or shutil.which("chromium-browser")
+        self.browser = shutil.which("chromium") or shutil.which("chromium-browser") or ""
         if not self.browser:
             self.skipTest("chromium is missing")
         now = datetime.datetime.now(datetime.timezone.utc).replace(tzinfo=None)
@@ -90,7 +92,7 @@ class Screens(Case):
         write("station/quality", b"minute 719 frames 3395 lost 0 corrected 8.10\n")
         self.call("page", "station", "page", "--rate", str(rate))
 
-    def test_wide_dark_and_phone(self):
+    def test_wide_dark_and_phone(self) -> None:
         for what, scheme, width, height in VIEWS:
             words = [self.browser, "--headless", "--no-sandbox", "--disable-gpu", "--hide-scrollbars"]
             words += [f"--blink-settings=preferredColorScheme={scheme}", f"--user-data-dir={os.getcwd()}/profile"]

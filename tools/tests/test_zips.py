@@ -4,26 +4,28 @@ import os
 import time
 import warnings
 import zipfile
+from collections.abc import Iterator
+from typing import Any
 
 from .support import HAS_JINJA, Case, added, needs_pillow, proper, record, shelf_of, taken, tree, write, zip_of
 
 warnings.filterwarnings("ignore", "Duplicate name")
 
 
-def link_to(target):
+def link_to(target: Any) -> Any:
     info = zipfile.ZipInfo("link")
     info.create_system = 3
     info.external_attr = 0o120777 << 16
     return info, target
 
 
-def patched(data, at, new, signature=b"PK\x01\x02"):
+def patched(data: Any, at: Any, new: Any, signature: Any = b"PK\x01\x02") -> Any:
     """A zip with other bytes at a place of its first central entry."""
     at += data.index(signature)
     return data[:at] + new + data[at + len(new) :]
 
 
-def hostile_zip_files():
+def hostile_zip_files() -> Iterator[Any]:
     """Names, and zips that stay zips (True), are unpacked to so many files, or either (None), as versions of Python
     differ."""
     good = zip_of(("a.txt", b"text"))
@@ -71,7 +73,7 @@ def hostile_zip_files():
 
 @needs_pillow
 class Zips(Case):
-    def test_each_stays_in_its_folder_and_within_its_limits(self):
+    def test_each_stays_in_its_folder_and_within_its_limits(self) -> None:
         zips = list(hostile_zip_files())
         items = [added(number, proper(2, [record(4, b"zip")], data)) for number, (_, data, _) in enumerate(zips)]
         write("zips.shelf", shelf_of(items))
