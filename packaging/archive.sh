@@ -14,6 +14,7 @@ folder=$(realpath -m -- "${1:-$top/out}") && mkdir -p "$folder" || exit 1
 scratch_folder
 base=gomtasil-$version
 fill "$scratch/$base" site-functions || fail "the files can't be copied"
+! has_library || { fill_library lib && fill_development lib; } || fail "the library can't be copied"
 for unit in "$top/examples/"*.service "$top/examples/"*.timer; do
     put 644 "$unit" "share/gomtasil/${unit##*/}" || exit 1
 done

@@ -2,6 +2,8 @@
 # shellcheck shell=sh
 export LC_ALL=C TZ=UTC
 umask 022
+# shellcheck source-path=SCRIPTDIR source=version.sh
+. "$top/packaging/version.sh" || exit 1
 
 fail() {
     echo "${0##*/}: $1" >&2
@@ -52,8 +54,7 @@ begin() {
     export SOURCE_DATE_EPOCH
     [ -z "$(git -C "$top" status --porcelain 2> /dev/null)" ] ||
         echo "${0##*/}: some files are not those of the commit, so these bytes aren't either" >&2
-    version=$(sed -n 's/^## \([0-9][0-9.]*\) .*/\1/p' "$top/CHANGELOG.md" | head -n 1)
-    ! grep -q '^## Next$' "$top/CHANGELOG.md" || version=$version+$(date -d "@$SOURCE_DATE_EPOCH" +%Y%m%d.%H%M)
+    version=$(version)
 }
 
 # put MODE FILE PLACE: a copy in $tree with these rights
@@ -90,6 +91,25 @@ fill_programs() {
     fi
 }
 
+# The demodulator of the architecture, where it was made, with its manual page and completions; ZSH as below.
+fill_demodulator() {
+    demodulator=${LRITDEMOD:-$top/crates/lritdemod/out/lritdemod}
+    [ "$architecture" = amd64 ] || demodulator=$demodulator-$architecture
+    if [ ! -x "$demodulator" ]; then
+        echo "${0##*/}: without lritdemod, which packaging/demodulator.sh makes, or arm64.sh" >&2
+        return
+    fi
+    is_for_architecture "$demodulator" || fail "$demodulator is no program for $architecture"
+    put 755 "$demodulator" bin/lritdemod || return 1
+    for place in man:share/man/man1/lritdemod.1 bash:share/bash-completion/completions/lritdemod \
+        "zsh:share/zsh/$1/_lritdemod" fish:share/fish/vendor_completions.d/lritdemod.fish; do
+        file=$tree/${place#*:}
+        mkdir -p "${file%/*}" || return 1
+        python3 "$top/packaging/demod_pages.py" "${place%%:*}" "$top" "$version" > "$file" || return 1
+    done
+    gzip -9n "$tree/share/man/man1/lritdemod.1"
+}
+
 # is_for_architecture FILE: whether this file of code (ELF) is for the architecture, by the number of its processor
 is_for_architecture() {
     case $architecture in
@@ -99,28 +119,37 @@ is_for_architecture() {
     [ "$(od -A n -t u1 -j 18 -N 2 "$1" | tr -d ' ')" = "${number}0" ]
 }
 
-# The library for C and Python, where it was made for this architecture, in a folder of its own that its .pc file names.
-fill_library() {
+# Whether there is a library for this architecture, whose folder is $library then.
+has_library() {
     library=$top/out/library
     [ "$architecture" = amd64 ] || library=$library-$architecture
     library=${LIBRARY:-$library}
     if [ ! -f "$library/liblritstation.so.1" ]; then
         echo "${0##*/}: without the library, which packaging/library.sh makes" >&2
-        return
+        return 1
     fi
     is_for_architecture "$library/liblritstation.so.1" || fail "$library is no library for $architecture"
-    for name in liblritstation.a liblritstation.so.1 lritstation.h lritstation.pc; do
-        put 644 "$library/$name" "lib/gomtasil/library/$name" || return 1
-    done
-    ln -s liblritstation.so.1 "$tree/lib/gomtasil/library/liblritstation.so"
+}
+
+# fill_library LIBRARIES: the library that is loaded, in this folder of libraries
+fill_library() { put 644 "$library/liblritstation.so.1" "$1/liblritstation.so.1"; }
+
+# fill_development LIBRARIES: what a program in C is compiled and linked with; pkg-config finds it from its file's place
+fill_development() {
+    put 644 "$library/lritstation.h" include/lritstation.h || return 1
+    put 644 "$library/liblritstation.a" "$1/liblritstation.a" || return 1
+    ln -s liblritstation.so.1 "$tree/$1/liblritstation.so" && mkdir -p "$tree/$1/pkgconfig" || return 1
+    up=$(echo "$1/pkgconfig" | sed 's,[^/]*,..,g')
+    sed "s,^prefix=.*,prefix=\${pcfiledir}/$up,; s,^Libs:.*,Libs: -L\${prefix}/$1 -llritstation,
+        s,^Cflags:.*,Cflags: -I\${prefix}/include," "$library/lritstation.pc" > "$tree/$1/pkgconfig/lritstation.pc"
 }
 
 # fill TREE ZSH: what both packages have, under the folder TREE; ZSH is the folder of zsh's functions there
 fill() {
     tree=$1
     put 755 "$top/packaging/lritstation" bin/lritstation || return 1
-    fill_programs && fill_library || return 1
-    for example in "$top/examples/"*.sh "$top/examples/"*.py; do
+    fill_programs && fill_demodulator "$2" || return 1
+    for example in "$top/examples/"*.sh; do
         # (what others read is no program of its own, and has no `#!`)
         mode=755
         head -c 2 "$example" | grep -q '#!' || mode=644
@@ -134,10 +163,13 @@ fill() {
     made bash share/bash-completion/completions/lritstation || return 1
     made zsh "share/zsh/$2/_lritstation" || return 1
     made fish share/fish/vendor_completions.d/lritstation.fish || return 1
-    (cd "$top" && ls README.md CONTRIBUTING.md docs/*.md docs/*.png trials/README.md bench/README.md) > "$scratch/documents"
+    (cd "$top" && ls README.md CONTRIBUTING.md SECURITY.md docs/*.md docs/*.png trials/README.md bench/README.md) \
+        > "$scratch/documents"
     while read -r document; do
         put 644 "$top/$document" "share/doc/gomtasil/$document" || return 1
     done < "$scratch/documents"
+    python3 "$top/trials/index.py" "$scratch/INDEX.md" > "$scratch/said" || return 1
+    put 644 "$scratch/INDEX.md" share/doc/gomtasil/docs/INDEX.md
     put 644 "$top/packaging/copyright" share/doc/gomtasil/copyright
 }
 

@@ -4,6 +4,23 @@
  */
 #include "lritstation.h"
 
+const char *lr_version(void) { return LR_VERSION; }
+
+size_t lr_words(int count, char *const *words, uint8_t *text, size_t room) {
+    size_t length = 0;
+    for (int place = 0; place < count; place++) {
+        if (place > 0) {
+            if (length == room) return 0;
+            text[length++] = '\n';
+        }
+        for (const char *at = words[place]; *at; at++) {
+            if (*at == '\n' || length == room) return 0;
+            text[length++] = (uint8_t)*at;
+        }
+    }
+    return length;
+}
+
 uint32_t lr_live(const uint8_t *words, size_t words_length);
 
 static _Thread_local const struct lr_devices *here = NULL;

@@ -33,6 +33,8 @@ program=$library/liblritstation
 . "$top/packaging/proving.sh" || exit 1
 # shellcheck source-path=SCRIPTDIR source=arm64/tools.sh
 . "$top/packaging/arm64/tools.sh" || exit 1
+# shellcheck source-path=SCRIPTDIR source=version.sh
+. "$top/packaging/version.sh" || exit 1
 
 # Sets for the architecture: the target, the toolchain, what memory comes from, and the files that the one to load is
 # linked to: the C library, and for arm64 what compilers call of gcc's own.
@@ -65,15 +67,16 @@ compile() {
 # Compiles what leads to the functions of the caller. (In its folder, so its path is in no byte.)
 compile_devices() {
     (cd "$top/packaging" && "$kit/toolchain/bin/clang" --target="$target" -std=c11 -O2 -fPIC \
-        -ftls-model=initial-exec -Wall -Wextra -Werror -ffreestanding -isystem headers -c devices.c \
+        -ftls-model=initial-exec -Wall -Wextra -Werror -ffreestanding -isystem headers \
+        "-DLR_VERSION=\"$(version)\"" -c devices.c \
         -o "$scratch/devices.o")
 }
 
-# Links both libraries. The one to load shows lr_run and lr_run_over alone.
+# Links both libraries. The one to load shows the four calls of the header alone.
 link_both() {
     tools=$kit/toolchain/bin
     both="$scratch/lr_embed.a $scratch/lr_live.a"
-    echo '{ global: lr_run; lr_run_over; local: *; };' > "$scratch/shown"
+    echo '{ global: lr_run; lr_run_over; lr_version; lr_words; local: *; };' > "$scratch/shown"
     # shellcheck disable=SC2086 # (they are several)
     "$tools/llvm-ar" qLD "$scratch/liblritstation.a" $both "$scratch/devices.o" "$heap" &&
         "$tools/ld.lld" -shared -soname liblritstation.so.1 --version-script="$scratch/shown" -z defs -z now -z relro \
@@ -90,7 +93,7 @@ describe() {
 prefix=\${pcfiledir}
 Name: lritstation
 Description: The software half of a weather satellite ground station
-Version: $(sed -n 's/^## \([0-9][0-9.]*\) .*/\1/p' "$top/CHANGELOG.md" | head -n 1)
+Version: $(version)
 Libs: -L\${prefix} -llritstation
 Cflags: -I\${prefix}
 END

@@ -1,7 +1,7 @@
 """Writes a page of the package from what stands in README, docs/FORMATS.md, CHANGELOG and the wrapper's help, so that
-nothing is written twice. Usage: pages.py help|commands|man|bash|zsh|fish|changelog TOP VERSION [PREFIX], with SOURCE_DATE_EPOCH
-and the folder under which the package stands, as /usr/. Where ARCHITECTURE in the environment is arm64, nothing is said
-of other processors."""
+nothing is written twice. Usage: pages.py help|commands|man|bash|zsh|fish|changelog TOP VERSION [PREFIX], with
+SOURCE_DATE_EPOCH and the folder under which the package is installed, such as /usr/. Where ARCHITECTURE in the
+environment is arm64, other processors aren't mentioned."""
 
 import calendar
 import email.utils
@@ -13,6 +13,7 @@ import textwrap
 import time
 
 MAINTAINER = "Gomtasil maintainers <maintainers@users.noreply.gomtasil.example>"
+MOST_NARROW = 24  # characters of a column whose cells have one line
 UNPROVED = "--unproved"  # (what a checkout alone can do)
 MANUAL = "The manual page lritstation(1) has every input, printed line and status."
 DOCUMENTS = """PREFIXshare/doc/gomtasil/README.md leads from symbols to a picture, and
@@ -59,10 +60,15 @@ def rows_of(lines):
     return [[cell.strip().replace("\\|", "|") for cell in row] for place, row in enumerate(rows) if place != 1]
 
 
-def command_table():
-    """The table of the commands, as FORMATS has it."""
+def table_of(head):
+    """The table of FORMATS that begins with this head, of those about the commands."""
     part = text_of("docs/FORMATS.md").split("\n## Commands\n")[1].split("\n## ")[0]
-    return next(block for block in part.split("\n\n") if block.startswith("| command |"))
+    return next(block for block in part.split("\n\n") if block.startswith(f"| {head} |"))
+
+
+def command_table():
+    """The table of the commands."""
+    return table_of("command")
 
 
 def commands():
@@ -105,19 +111,15 @@ def bold(cell):
 
 
 def table(lines):
-    """Each row as a paragraph: the first cell, and then the others, with their heads where they aren't prose, and from
-    the third one on."""
+    """A table, as tbl sets it: a column with a long cell of several words takes the lines that it needs."""
     rows = rows_of(lines)
-    head = rows[0]
-    written = []
-    last = ""
-    for row in rows[1:]:
-        last = row[0] or last
-        bare = len(row) > 2 and re.fullmatch(r"\d+|`[^`]*`", row[1])
-        rest = [f"{head[1]}: {row[1]}" if bare else row[1]]
-        rest += [f"{head[place]}: {row[place]}" for place in range(2, len(row)) if row[place]]
-        written += [".TP", bold(last), in_line("; ".join(rest))]
-    return written
+    wide = [any(len(cell) > MOST_NARROW and " " in cell for cell in column) for column in zip(*rows)]
+    form = " ".join("lx" if it else "l" for it in wide)
+    written = [".TS", "tab(@);", " ".join("lB" for _ in wide), form + "."]
+    for row in rows:
+        cells = [f"T{{\n.ad l\n{in_line(cell)}\nT}}" if is_wide else in_line(cell) for cell, is_wide in zip(row, wide)]
+        written += "@".join(cells).split("\n")
+    return [*written, ".TE"]
 
 
 def roff(markdown):
@@ -146,11 +148,9 @@ def term(head, said):
 
 def options():
     """The options of the commands, from the help, and those that stand in place of words."""
-    lines = re.findall(r"(?m)^  (--\S+ \S+) +(.*)$", help_text())
-    said = next(part for part in help_text().split("\n\n") if part.startswith("N of --symbols"))
-    written = ['.SH "OPTIONS"', ".PP", "Each option stands once, in any place after the command.", in_line(said)]
-    for option, names in lines:
-        written += term(option, f"of {names}")
+    written = ['.SH "OPTIONS"', ".PP", "Each option stands once, in any place after the command."]
+    for option, names, meaning in re.findall(r"(?m)^  (--\S+ \S+) +(.*)$(?:\n      (\S.*)$)?", help_text()):
+        written += term(option, f"of {names}" + (f": {meaning}" if meaning else ""))
     written += [".PP", "These stand in place of all words:"]
     written += term("--help [COMMAND]", "prints the commands, or the form of one")
     return written + term("--version", "prints the version")
@@ -178,7 +178,8 @@ def man():
     paragraphs = help_text().split("\n\n")
     name = paragraphs[0].split(": ", 1)[1]
     date = time.strftime("%Y-%m-%d", time.gmtime(EPOCH))
-    written = [f'.TH LRITSTATION 1 "{date}" "Gomtasil {VERSION}" "User Commands"']
+    # (the first line has tbl set the tables)
+    written = ["'\\\" t", f'.TH LRITSTATION 1 "{date}" "Gomtasil {VERSION}" "User Commands"']
     written += [".SH NAME", f"lritstation \\- {escaped(name)}", ".SH SYNOPSIS"]
     for line in paragraphs[1].split("\n"):
         written += [".PP" if line.startswith("usage") else ".br", bold(line.replace("usage:", "").strip())]
@@ -299,7 +300,7 @@ def changelog():
 
 PAGES = {
     "help": lambda: help_text() + "\n",
-    "commands": lambda: placed(command_table()) + "\n",
+    "commands": lambda: placed(command_table() + "\n\n" + table_of("word")) + "\n",
     "man": man,
     "bash": bash,
     "zsh": zsh,

@@ -80,7 +80,7 @@ def man():
     top, found = commands()
     date = time.strftime("%Y-%m-%d", time.gmtime(EPOCH))
     written = [f'.TH GOMTASIL 1 "{date}" "Gomtasil {VERSION}" "User Commands"', ".SH NAME"]
-    written += ["gomtasil \\- what comes after the shelf of a weather satellite's station", ".SH SYNOPSIS"]
+    written += ["gomtasil \\- extract, view and monitor what lritstation received", ".SH SYNOPSIS"]
     for place, (_, parser, _) in enumerate(found):
         usage = " ".join(parser.format_usage().split()[1:]).replace("[-h] ", "")
         written += [".PP" if place == 0 else ".br", escaped(usage)]

@@ -18,6 +18,8 @@ heap="rattle_alloc rattle_realloc rattle_dealloc"
 host="lr_host_take lr_host_put lr_host_length lr_host_read lr_host_write lr_host_cut lr_host_sync"
 # shellcheck source-path=SCRIPTDIR source=proving.sh
 . "$top/packaging/proving.sh" || exit 1
+# shellcheck source-path=SCRIPTDIR source=version.sh
+. "$top/packaging/version.sh" || exit 1
 
 fail() {
     echo "$called: $1" >&2
@@ -75,12 +77,6 @@ for_web() {
     )
 }
 
-# The newest version of CHANGELOG and the commit.
-version() {
-    number=$(sed -n 's/^## \([0-9][0-9.]*\) .*/\1/p' "$top/CHANGELOG.md" | head -n 1)
-    echo "$number, commit $(git -C "$top" log -1 --format=%H 2> /dev/null | cut -c 1-12)"
-}
-
 for tool in rt python3; do
     command -v $tool > /dev/null || fail "$tool is missing"
 done
@@ -91,6 +87,7 @@ find_kit || fail "rt doc doesn't say where the kit is"
 prove_below && compile && for_web lr_run -Os $heap || exit 1
 # shellcheck disable=SC2086
 outside "$top/packaging/web/lr_live" && compile && for_web lr_live -O3 $heap $host || exit 1
-python3 "$top/packaging/web/bundle.py" "$scratch/modules" "$(version)" "$program.new" || exit 1
+made_of="$(version), commit $(git -C "$top" rev-parse --short=12 HEAD)"
+python3 "$top/packaging/web/bundle.py" "$scratch/modules" "$made_of" "$program.new" || exit 1
 [ -z "${MODULES-}" ] || cp "$scratch/modules/"*.wasm "$MODULES/" || exit 1
 mv "$program.new" "$program" && echo "$program"

@@ -57,7 +57,7 @@ def policy(style: str, text: str) -> str:
         "script-src": f"{checksum(text)} 'wasm-unsafe-eval'",
         "style-src": checksum(style),
         "worker-src": "blob:",
-        "img-src": "blob:",
+        "img-src": "blob: data:",
         "connect-src": "'none'",
         "base-uri": "'none'",
         "form-action": "'none'",

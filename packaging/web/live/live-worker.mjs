@@ -1,6 +1,6 @@
 // The Worker of a live source: `lr_live` receives what a WebSocket brings. Where nothing is there its call waits for
 // the next piece, by JSPI, and this Worker hears messages meanwhile.
-import { Reception } from '../page/receiver.mjs';
+import { PASSES, Reception } from '../page/receiver.mjs';
 import { MOST_CAPACITY } from '../page/shelf.mjs';
 import { Station, textOf } from '../page/station.mjs';
 
@@ -113,7 +113,7 @@ const TASKS = {
     await new LiveStation(module).awaited(['init', String(MOST_CAPACITY)], reception);
     const station = new LiveStation(module);
     input = station.input = new SocketInput(url, () => postMessage({ kind: 'open' }));
-    const status = await station.awaited(['receive', ...options, '--mend', '64'], reception);
+    const status = await station.awaited(['receive', ...options, ...PASSES, '--mend', '64'], reception);
     input.end();
     port.postMessage({ kind: 'end' });
     const fault = station.fault ? String(station.fault) : '';

@@ -2,8 +2,6 @@
 import { at, save } from '../page/elements.mjs';
 import { View } from '../page/view.mjs';
 
-/** @typedef {Record<string, any>} Message */
-
 /** @type {WebAssembly.Module[]} */
 let modules;
 /** @type {Worker} */
@@ -30,7 +28,7 @@ function count() {
   at('time').textContent = `${(came / 1e6).toFixed(1)} MB came. Files so far: ${files}`;
 }
 
-/** @type {Record<string, (message: Message) => void>} */
+/** @type {Record<string, (message: any) => void>} */
 const HEARD = {
   open: () => say('Listening. Files appear as they come.'),
   came: ({ bytes }) => {
@@ -45,14 +43,14 @@ const HEARD = {
   picture: (picture) => view.picture(picture),
   sent: (sent) => view.sent(sent),
   text: (text) => view.text(text),
-  saved: ({ name, bytes, parts, type }) => name && save(name, parts ?? [bytes], type),
+  saved: ({ name, bytes, type }) => name && save(name, [bytes], type),
   received: ({ status, last, err, fault }) => {
     if (status === 0) say(`The source has ended: ${last}`);
     else say(`The receiver ended early: ${[err, fault].filter(Boolean).join('; ')}`, true);
     going(false);
   },
-  settled: (message) => {
-    document.body.dataset.settled = String(message.files);
+  settled: (settled) => {
+    document.body.dataset.settled = String(settled.files);
   },
   failed: ({ text }) => say(`It failed: ${text}`, true),
 };
@@ -66,7 +64,7 @@ function workerOf(script, module) {
   const worker = new Worker(script, { type: 'module' });
   worker.onmessage = ({ data }) => HEARD[data.kind]?.(data);
   worker.onerror = (event) => HEARD.failed({ text: event.message });
-  worker.postMessage({ kind: 'load', module });
+  worker.postMessage({ kind: 'load', module, live: module });
   return worker;
 }
 

@@ -1,36 +1,42 @@
 // The curve of the quality: where frames were lost, and how many bytes were corrected in the others.
 import { element } from './elements.mjs';
+import { rich, text } from './words.mjs';
 
 const [WIDTH, HEIGHT, LEFT, BOTTOM] = [640, 160, 34, 22];
-const LIMIT = 64; // bytes of a frame that can be corrected at most: sixteen in each of four words
+const LIMIT = 64; // bytes of a frame that one pass can correct at most: sixteen in each of four words
 const SVG = 'http://www.w3.org/2000/svg';
 
-/** @typedef {import('./quality.mjs').Bucket} Bucket */
+/**
+ * @typedef {import('./quality.mjs').Bucket} Bucket
+ * @typedef {import('./words.mjs').Said} Said
+ */
 
 /**
  * @param {string} name
  * @param {Record<string, string | number>} properties
- * @param {string} [text]
+ * @param {string} [inside]
  */
-function shape(name, properties, text = '') {
+function shape(name, properties, inside = '') {
   const it = document.createElementNS(SVG, name);
   for (const [key, value] of Object.entries(properties)) it.setAttribute(key, String(value));
-  it.textContent = text;
+  it.textContent = inside;
   return it;
 }
 
 /**
  * What the curve says, in words.
  * @param {Bucket} total
- * @returns {string}
+ * @returns {Said[]}
  */
-export function inWordsOf({ frames, lost, corrected }) {
-  if (!frames) return 'No frame was found.';
+export function saidOf({ frames, lost, redecoded, corrected }) {
+  if (!frames) return [{ key: 'quality.none' }];
   const whole = frames - lost;
   const mean = whole ? (corrected / whole).toFixed(1) : '0';
   const share = ((100 * lost) / frames).toFixed(lost && lost < frames / 100 ? 2 : 0);
-  const corrections = `In each of the others ${mean} bytes were corrected on average, of at most ${LIMIT}.`;
-  return `Of ${frames} frames ${lost} were lost (${share} %). ${corrections}`;
+  /** @type {Said[]} */
+  const said = [{ key: 'quality.lost', values: { frames, lost, share } }];
+  if (redecoded) said.push({ key: 'quality.again', values: { count: redecoded } });
+  return [...said, { key: 'quality.corrected', values: { mean, most: LIMIT } }];
 }
 
 /**
@@ -43,7 +49,8 @@ export function curveOf(buckets, total) {
   const [right, top] = [WIDTH - 4, 8];
   const wide = (right - LEFT) / buckets.length;
   const high = HEIGHT - BOTTOM - top;
-  const svg = shape('svg', { viewBox: `0 0 ${WIDTH} ${HEIGHT}`, role: 'img', 'aria-label': inWordsOf(total) });
+  const label = saidOf(total).map(({ key, values }) => text(key, values)).join(' ');
+  const svg = shape('svg', { viewBox: `0 0 ${WIDTH} ${HEIGHT}`, role: 'img', 'aria-label': label });
   /** @type {string[]} */
   const points = [];
   buckets.forEach(({ frames, lost, corrected }, place) => {
@@ -60,9 +67,7 @@ export function curveOf(buckets, total) {
   svg.append(shape('line', { class: 'axis', x1: LEFT, y1: top, x2: LEFT, y2: HEIGHT - BOTTOM }));
   svg.append(shape('text', { x: LEFT - 6, y: top + 10, 'text-anchor': 'end' }, String(LIMIT)));
   svg.append(shape('text', { x: LEFT - 6, y: HEIGHT - BOTTOM, 'text-anchor': 'end' }, '0'));
-  svg.append(shape('text', { x: LEFT, y: HEIGHT - 6 }, 'begin'));
-  svg.append(shape('text', { x: right, y: HEIGHT - 6, 'text-anchor': 'end' }, 'end of the recording'));
-  const legend = 'Line: bytes that were corrected in a frame, from 0 to 64. Bars: the share of frames that were lost.';
-  const words = element('p', { textContent: inWordsOf(total) });
-  return [svg, words, element('p', { className: 'small', textContent: legend })];
+  const words = element('p', {});
+  for (const { key, values } of saidOf(total)) words.append(...rich(key, values), ' ');
+  return [svg, words, element('p', { className: 'small' }, ...rich('quality.legend'))];
 }

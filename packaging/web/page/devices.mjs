@@ -2,6 +2,7 @@
 
 const CHUNK_BYTES = 4 << 20; // that are read from a file at once
 const PIECE_BYTES = 1 << 20; // of a shelf, which grows by these
+const WINDOW_BYTES = 4 << 20; // of a shelf's file that are read at once
 
 /**
  * @typedef {{take(into: Uint8Array): number}} Input where bytes come from: 0 at the end
@@ -143,8 +144,75 @@ export class MemoryShelf {
     return bytes;
   }
 
+  /**
+   * Its first bytes as a file.
+   * @param {number} count
+   * @returns {Blob}
+   */
+  front(count) {
+    const pieces = this.pieces.map((it, at) => it.subarray(0, Math.max(0, count - at * PIECE_BYTES)));
+    return new Blob(/** @type {any} */ (pieces));
+  }
+
   /** @returns {Uint8Array} */
   all() {
     return this.slice(0, this.size);
   }
+}
+
+/** A shelf's file that is only read, in windows: it never lies in memory whole. For a Worker alone. */
+export class FileShelf {
+  /** @param {Blob} file */
+  constructor(file) {
+    this.file = file;
+    this.from = 0;
+    this.window = new Uint8Array(0);
+  }
+
+  length() {
+    return this.file.size;
+  }
+
+  /**
+   * The bytes from a place on, fewer where the file ends.
+   * @param {number} place
+   * @param {number} count
+   * @returns {Uint8Array}
+   */
+  slice(place, count) {
+    if (count > WINDOW_BYTES) return bytesOf(this.file.slice(place, place + count));
+    const isInside = place >= this.from && place + count <= this.from + this.window.length;
+    if (!isInside) {
+      this.window = bytesOf(this.file.slice(place, place + WINDOW_BYTES));
+      this.from = place;
+    }
+    return this.window.slice(place - this.from, place - this.from + count);
+  }
+
+  /**
+   * Fills the front of `into` with the bytes from a place on, and says how many.
+   * @param {number} place
+   * @param {Uint8Array} into
+   * @returns {number}
+   */
+  read(place, into) {
+    const bytes = this.slice(place, into.length);
+    into.set(bytes);
+    return bytes.length;
+  }
+
+  /** @param {number} count */
+  front(count) {
+    return this.file.slice(0, count);
+  }
+
+  write() {
+    throw new Error('this shelf is only read');
+  }
+
+  cut() {
+    throw new Error('this shelf is only read');
+  }
+
+  sync() {}
 }

@@ -1,30 +1,24 @@
-// What a recording is made of, and which line code it has: the four are tried over its first 4,000,000 bytes, and where
-// none locks over as many from its middle; then other forms, which are turned into a signed byte a symbol.
+// What a recording may be made of: its forms, which are turned into a signed byte a symbol, and what bytes look like.
 import { viewOf } from './xrit.mjs';
 
-export const TRIED_BYTES = 4_000_000; // 244 frames
-const FORM_BYTES = 65_536; // by which the form is told
+export const FORM_BYTES = 65_536; // by which the form is told
 export const FRAME_SYMBOLS = 16_384;
-const FRAME_BYTES = 892;
+const FRAME_BYTES = 892; // without marker and code
 const CADU_BYTES = 1024;
 const MARKER = [0x1a, 0xcf, 0xfc, 0x1d];
-const LOST_BYTES = 65; // as which a lost frame counts: one more than can be corrected
 const LEVEL = 64; // of a clean symbol
 const COUNTER_MODULUS = 1 << 24;
 export const CODES = ['nrz-l', 'nrz-m'].flatMap((line) => ['inverted', 'plain'].map((g2) => ({ line, g2 })));
 
 /**
  * @typedef {import('./devices.mjs').Turn} Turn
- * @typedef {import('./station.mjs').Station} Station
  * @typedef {{line: string, g2: string}} Code
  * @typedef {object} Form
- * @property {string} says what it is, in words
  * @property {number} unit the bytes that are turned together
  * @property {number} gives the symbols of a unit, or of frames its bytes
  * @property {'symbols' | 'frames'} input
  * @property {(front: Uint8Array) => Turn} turnFor the turn, by the recording's first bytes
  * @typedef {{form: string, code: Code | null, mend?: number}} Found mend: how many fillers an image may have
- * @typedef {{says: string, start: number, code: Code, frames: number, restored: number}} Told
  */
 
 const [ZERO, ONE] = [256 - LEVEL, LEVEL]; // the bytes of a bit 0 and of a bit 1: -64 and 64
@@ -61,40 +55,32 @@ function scaling(width, read) {
 
 /** @type {Record<string, Form>} */
 export const FORMS = {
-  signed: { says: 'signed bytes', unit: 1, gives: 1, input: 'symbols', turnFor: () => (bytes) => bytes },
+  signed: { unit: 1, gives: 1, input: 'symbols', turnFor: () => (bytes) => bytes },
   unsigned: {
-    says: 'unsigned bytes', unit: 1, gives: 1, input: 'symbols',
-    turnFor: () => (bytes) => bytes.map((it) => it ^ 0x80),
+    unit: 1, gives: 1, input: 'symbols', turnFor: () => (bytes) => bytes.map((it) => it ^ 0x80),
   },
   bits: {
-    says: 'bits, a byte each', unit: 1, gives: 1, input: 'symbols',
-    turnFor: () => (bytes) => bytes.map((it) => (it ? ONE : ZERO)),
+    unit: 1, gives: 1, input: 'symbols', turnFor: () => (bytes) => bytes.map((it) => (it ? ONE : ZERO)),
   },
-  packed: { says: 'bits, eight a byte', unit: 1, gives: 8, input: 'symbols', turnFor: () => bitsOf },
+  packed: { unit: 1, gives: 8, input: 'symbols', turnFor: () => bitsOf },
   s16le: {
-    says: 'integers of 16 bits, the low byte first', unit: 2, gives: 1, input: 'symbols',
+    unit: 2, gives: 1, input: 'symbols',
     turnFor: scaling(2, (view, place) => view.getInt16(place, true)),
   },
   s16be: {
-    says: 'integers of 16 bits, the high byte first', unit: 2, gives: 1, input: 'symbols',
+    unit: 2, gives: 1, input: 'symbols',
     turnFor: scaling(2, (view, place) => view.getInt16(place)),
   },
   f32le: {
-    says: 'floats of 32 bits, the low byte first', unit: 4, gives: 1, input: 'symbols',
+    unit: 4, gives: 1, input: 'symbols',
     turnFor: scaling(4, (view, place) => view.getFloat32(place, true)),
   },
   f32be: {
-    says: 'floats of 32 bits, the high byte first', unit: 4, gives: 1, input: 'symbols',
+    unit: 4, gives: 1, input: 'symbols',
     turnFor: scaling(4, (view, place) => view.getFloat32(place)),
   },
-  frames: {
-    says: `frames of ${FRAME_BYTES} bytes`, unit: FRAME_BYTES, gives: FRAME_BYTES, input: 'frames',
-    turnFor: () => (bytes) => bytes,
-  },
-  cadu: {
-    says: `frames of ${CADU_BYTES} bytes with their marker`, unit: CADU_BYTES, gives: FRAME_BYTES, input: 'frames',
-    turnFor: () => framesOfCadus,
-  },
+  frames: { unit: FRAME_BYTES, gives: FRAME_BYTES, input: 'frames', turnFor: () => (bytes) => bytes },
+  cadu: { unit: CADU_BYTES, gives: FRAME_BYTES, input: 'frames', turnFor: () => framesOfCadus },
 };
 
 /** @param {Uint8Array} bytes */
@@ -176,7 +162,7 @@ function areShorts(bytes) {
 }
 
 /**
- * The forms to try where signed bytes don't lock, the likeliest first.
+ * The forms to try, the likeliest first: what the first bytes tell, and else bytes.
  * @param {Uint8Array} front
  * @returns {string[]}
  */
@@ -184,9 +170,18 @@ export function formsOf(front) {
   const bytes = front.subarray(0, FORM_BYTES);
   if (isMarker(bytes) && isMarker(bytes.subarray(CADU_BYTES))) return ['cadu'];
   if (areFrames(bytes)) return ['frames'];
-  if (bytes.every((it) => it < 2)) return ['bits'];
+  if (bytes.every((it) => it < 2) && bytes.includes(1)) return ['bits'];
   const floats = [...(areFloats(bytes, 3) ? ['f32le'] : []), ...(areFloats(bytes, 0) ? ['f32be'] : [])];
-  return [...floats, ...(areShorts(bytes) ? ['s16le', 's16be'] : []), 'unsigned', 'packed'];
+  return [...floats, ...(areShorts(bytes) ? ['s16le', 's16be'] : []), 'signed', 'unsigned', 'packed'];
+}
+
+/**
+ * Whether bytes are numbers of several bytes each, by which a radio's samples may stand too.
+ * @param {Uint8Array} bytes
+ * @returns {boolean}
+ */
+export function areNumbers(bytes) {
+  return areFloats(bytes, 3) || areFloats(bytes, 0) || areShorts(bytes);
 }
 
 /**
@@ -194,95 +189,11 @@ export function formsOf(front) {
  * @param {Uint8Array} bytes
  * @returns {boolean}
  */
-function piles(bytes) {
+export function piles(bytes) {
   const counts = new Uint32Array(256);
   for (const it of bytes) counts[it] += 1;
   const ends = counts[0] + counts[255];
   return ends > bytes.length / 20 && ends > 4 * (counts[1] + counts[254]);
-}
-
-// ---- the search
-
-/**
- * What a line code gives of some symbols.
- * @param {Station} station
- * @param {Uint8Array} symbols
- * @param {Code} code
- * @returns {{frames: number, restored: number, corrected: number}}
- */
-function tried(station, symbols, code) {
-  const { out } = station.run(['decode', '--line', code.line, '--g2', code.g2], { input: symbols });
-  const sum = { frames: 0, restored: 0, corrected: 0 };
-  for (const line of new TextDecoder().decode(out).split('\n')) {
-    const words = line.split(' ');
-    if (words[0] !== 'window') continue;
-    const isLost = words[6] === 'lost';
-    sum.frames += 1;
-    sum.restored += isLost ? 0 : 1;
-    sum.corrected += isLost ? LOST_BYTES : words.slice(7, 11).reduce((all, it) => all + Number(it), 0);
-  }
-  return sum;
-}
-
-/**
- * The line code that restores most frames, or null where none restores any.
- * @param {Station} station
- * @param {Uint8Array} symbols
- * @param {(code: Code, frames: number, restored: number) => void} told
- * @returns {{code: Code, sum: ReturnType<typeof tried>} | null}
- */
-function bestOf(station, symbols, told) {
-  let best = null;
-  for (const code of CODES) {
-    const sum = tried(station, symbols, code);
-    told(code, sum.frames, sum.restored);
-    if (sum.restored > (best?.sum.restored ?? 0)) best = { code, sum };
-  }
-  return best;
-}
-
-/**
- * Whether bytes that lock are unsigned: by what is corrected, or where that is the same by their values.
- * @param {Station} station
- * @param {Uint8Array} bytes
- * @param {{code: Code, sum: ReturnType<typeof tried>}} best
- * @returns {boolean}
- */
-function areUnsigned(station, bytes, { code, sum }) {
-  const flipped = tried(station, FORMS.unsigned.turnFor(bytes)(bytes), code);
-  const [here, there] = [sum, flipped].map((it) => it.corrected - LOST_BYTES * it.frames);
-  return there < here || (there === here && piles(bytes.subarray(0, FORM_BYTES)));
-}
-
-/**
- * The form and the line code of a recording, or null where nothing locks.
- * @param {Station} station
- * @param {number} size of the recording
- * @param {(start: number, count: number) => Uint8Array} read
- * @param {(told: Told) => void} tell hears of each try
- * @returns {Found | null}
- */
-export function which(station, size, read, tell) {
-  /** @param {string} form @param {number} start @param {Uint8Array} bytes */
-  const best = (form, start, bytes) => {
-    const { says, gives, unit, turnFor } = FORMS[form];
-    const symbols = turnFor(bytes)(bytes.subarray(0, (TRIED_BYTES / gives) * unit));
-    return bestOf(station, symbols.subarray(0, TRIED_BYTES), (code, frames, restored) =>
-      tell({ says, start, code, frames, restored }),
-    );
-  };
-  for (const start of size > 2 * TRIED_BYTES ? [0, Math.floor(size / 2)] : [0]) {
-    const bytes = read(start, TRIED_BYTES);
-    const found = best('signed', start, bytes);
-    if (found) return { form: areUnsigned(station, bytes, found) ? 'unsigned' : 'signed', code: found.code };
-  }
-  const front = read(0, 4 * TRIED_BYTES);
-  for (const form of size ? formsOf(front) : []) {
-    if (FORMS[form].input === 'frames') return { form, code: null };
-    const found = best(form, 0, front);
-    if (found) return { form, code: found.code };
-  }
-  return null;
 }
 
 /**

@@ -1,13 +1,14 @@
 // What a Worker with `lr_run` does: it finds the line code, holds the shelf, and makes pictures, texts and files of it.
-import { MemoryShelf, bytesOf } from './devices.mjs';
-import { which } from './forms.mjs';
+import { FileShelf, MemoryShelf, bytesOf } from './devices.mjs';
 import { joinedPicture, isReadable, pictureOf, shown } from './images.mjs';
 import { safe, stampName } from './names.mjs';
 import { pngOf } from './png.mjs';
+import { which } from './search.mjs';
 import { Groups, inWords } from './segments.mjs';
-import { HEADER_BYTES, fileOf, headsOf } from './shelf.mjs';
+import { CLOSED, HEADER_BYTES, fileOf, headsOf } from './shelf.mjs';
+import { lineReader } from './quality.mjs';
 import { headingOf, inside, nameOf, pictureKind } from './texts.mjs';
-import { TYPES, isEncrypted, stampOf, structureOf } from './xrit.mjs';
+import { TYPES, isEncrypted, mendedOf, stampOf, structureOf } from './xrit.mjs';
 import { ZipWriter } from './zip.mjs';
 
 const MOST_SIDE = 1200; // of a picture as it is shown
@@ -23,12 +24,16 @@ const WHOLE_ENDING = '.lrit';
  * @typedef {import('./shelf.mjs').Head} Head
  * @typedef {import('./segments.mjs').Group} Group
  * @typedef {import('./receiver.mjs').Change} Change
- * @typedef {import('./receiver.mjs').Tell} Tell
+ * @typedef {import('./messages.mjs').Told} Told
+ * @typedef {import('./messages.mjs').PictureTold | import('./messages.mjs').SentTold} Drawn
+ * @typedef {(message: Told) => void} Tell
+ * @typedef {import('./words.mjs').Key} Key
  * @typedef {{name: string, bytes: Uint8Array}} Saved
  */
 
 /** The shelf and what it has. */
 export class Keeper {
+  /** @type {MemoryShelf | FileShelf} */
   shelf = new MemoryShelf();
   groups = new Groups();
   gate = HEADER_BYTES; // where the next item is looked for
@@ -57,8 +62,8 @@ export class Keeper {
   }
 
   /**
-   * Begins anew.
-   * @param {MemoryShelf} shelf
+   * Begins again with another shelf.
+   * @param {MemoryShelf | FileShelf} shelf
    */
   begin(shelf = new MemoryShelf()) {
     const { station, tell, run } = this;
@@ -69,12 +74,13 @@ export class Keeper {
 
   /** @param {Change} change */
   change(change) {
-    if (change.kind === 'write') this.shelf.write(change.place, change.bytes);
-    if (change.kind === 'cut') this.shelf.cut(change.length);
+    const shelf = /** @type {MemoryShelf} */ (this.shelf);
+    if (change.kind === 'write') shelf.write(change.place, change.bytes);
+    if (change.kind === 'cut') shelf.cut(change.length);
     if (change.kind === 'shelved') this.look();
   }
 
-  /** Takes what stands on the shelf anew. */
+  /** Takes what has come onto the shelf. */
   look() {
     for (const head of headsOf(this.shelf, this.gate, this.number)) {
       this.gate = head.gate + 1 + head.extent;
@@ -96,15 +102,25 @@ export class Keeper {
   }
 
   /**
-   * A saved shelf in place of this one.
-   * @param {Uint8Array} bytes
+   * A saved shelf in place of this one. Where it breaks off, the files before that are shown.
+   * @param {Blob} file
+   * @param {Station} live
    */
-  open(bytes) {
-    this.begin(new MemoryShelf(bytes));
-    const { status, out, err } = this.station.run(['verify'], { shelf: bytes });
-    const bad = new TextDecoder().decode(out).split('\n').filter((line) => / bad /.test(line)).length;
-    this.tell({ kind: 'opened', status, err: err.trim(), bad });
+  open(file, live) {
+    this.begin(new FileShelf(file));
+    let [bad, err] = [0, ''];
+    const lines = lineReader((line) => {
+      bad += Number(/^file [0-9]+ bad /.test(line));
+    });
+    /** @param {number} output @param {Uint8Array} bytes */
+    const put = (output, bytes) => {
+      if (output === 1) lines(bytes);
+      else err += new TextDecoder().decode(bytes);
+    };
+    const status = live.live(['verify'], { input: { take: () => 0 }, shelf: this.shelf, put });
     for (const head of headsOf(this.shelf)) if (head.isDiscard) this.gone.add(head.number);
+    this.look();
+    this.tell({ kind: 'opened', status, err: err.trim(), bad, files: this.heads.size - this.gone.size });
     this.end();
   }
 
@@ -166,15 +182,15 @@ export class Keeper {
     const { run } = this;
     const file = this.file(number);
     if (!file) {
-      this.tell({ kind: 'file', number, name: `file ${number}`, what: 'its checksum is wrong' });
+      this.tell({ kind: 'file', number, name: '', stamp: '', size: 0, corrected: 0, type: 'type.damaged', note: null });
       return;
     }
     const { header } = file;
     const isPicture = header !== null && header.fileType === TYPES.image && structureOf(header) !== null;
-    const found = isPicture ? { files: [], note: '' } : await inside(file);
+    const found = isPicture ? { files: [], note: null } : await inside(file);
     if (this.run !== run) return;
-    const note = header && isEncrypted(header) ? 'it is encrypted, so it is kept as it came' : found.note;
-    this.tell({ ...aboutFile(file), what: isPicture ? 'picture' : whatIs(found.files), note });
+    const type = isPicture ? 'type.picture' : typeOf(found.files);
+    this.tell({ ...aboutFile(file), type, note: noteOf(header, found.note) });
     const group = isPicture ? this.groups.add(file) : null;
     if (group && group.id < this.most) this.changed.add(group);
     for (const [member, it] of found.files.entries()) this.tellOpened(file, member, it);
@@ -189,9 +205,10 @@ export class Keeper {
   tellOpened(file, member, it) {
     const name = [nameOf(file), it.name].filter(Boolean).join(' · ');
     const about = { number: file.number, member, name, stamp: stampText(file.header) };
+    const whole = { missing: '', lacking: 0, mended: null };
     const kind = pictureKind(it.bytes);
     if (kind && isReadable(it.bytes, kind.ending)) {
-      this.tell({ kind: 'sent', ...about, bytes: it.bytes, type: kind.type });
+      this.tell({ kind: 'sent', ...about, ...whole, bytes: it.bytes, type: kind.type });
     }
     if (it.ending !== '.txt') return;
     const text = new TextDecoder().decode(it.bytes);
@@ -229,11 +246,13 @@ export class Keeper {
   /**
    * What is told of a picture.
    * @param {Group} group
-   * @returns {Promise<Record<string, unknown>>}
+   * @returns {Promise<Drawn>}
    */
   async drawn(group) {
     const { id, name, mended } = group;
-    const about = { id, name, stamp: stampText(group.header), missing: inWords(group.missing), mended };
+    const { missing } = group;
+    const lacks = { missing: inWords(missing), lacking: missing.length, mended };
+    const about = { id, name, stamp: stampText(group.header), ...lacks };
     const sent = this.asSent(group);
     if (sent) {
       const { file, kind } = sent;
@@ -242,11 +261,11 @@ export class Keeper {
     try {
       const picture = await this.picture(group);
       if (!picture) return { kind: 'picture', ...about, shown: null };
-      const { columns, lines, bits } = picture;
-      return { kind: 'picture', ...about, columns, lines, bits, shown: shown(picture, MOST_SIDE) };
+      const { columns, lines } = picture;
+      return { kind: 'picture', ...about, columns, lines, shown: shown(picture, MOST_SIDE) };
     } catch (fault) {
       if (!(fault instanceof RangeError)) throw fault;
-      return { kind: 'picture', ...about, shown: null, note: 'it is too large for this browser' };
+      return { kind: 'picture', ...about, shown: null, note: 'picture.large' };
     }
   }
 
@@ -311,15 +330,16 @@ export class Keeper {
 
   // ---- what the page asks for
 
-  /** @param {Blob} file */
-  which(file) {
-    const found = which(
-      this.station,
-      file.size,
-      (start, count) => bytesOf(file.slice(start, start + count)),
-      (told) => this.tell({ kind: 'tried', ...told }),
-    );
-    this.tell({ kind: 'which', found });
+  /**
+   * @param {Blob} file
+   * @param {import('./search.mjs').Chosen} chosen
+   */
+  which(file, chosen) {
+    const read = (/** @type {number} */ start, /** @type {number} */ count) => bytesOf(file.slice(start, start + count));
+    const trying = (/** @type {import('./search.mjs').Trying} */ it) => this.tell({ kind: 'trying', ...it });
+    const told = (/** @type {import('./search.mjs').Try} */ it) => this.tell({ kind: 'tried', ...it });
+    const answer = which(this.station, file.size, read, chosen, trying, told);
+    this.tell({ kind: 'found', ...answer });
   }
 
   /**
@@ -353,11 +373,13 @@ export class Keeper {
   }
 
   async saveAll() {
-    this.tell({ kind: 'saved', name: 'files.zip', parts: await this.packed(), type: 'application/zip' });
+    this.tell({ kind: 'saved', name: 'files.zip', bytes: await this.packed(), type: 'application/zip' });
   }
 
+  /** The shelf up to its last item, with the closed gate that ends it. */
   saveShelf() {
-    this.tell({ kind: 'saved', name: 'station.shelf', bytes: this.shelf.all(), type: 'application/octet-stream' });
+    const bytes = new Blob([this.shelf.front(this.gate), Uint8Array.of(CLOSED)]);
+    this.tell({ kind: 'saved', name: 'station.shelf', bytes, type: 'application/octet-stream' });
   }
 }
 
@@ -387,16 +409,32 @@ function stampText(header) {
 /** @param {StoredFile} file */
 function aboutFile(file) {
   const { number, corrected, proper, header } = file;
-  return { kind: 'file', number, corrected, size: proper.length, name: nameOf(file), stamp: stampText(header) };
+  const kind = /** @type {const} */ ('file');
+  return { kind, number, corrected, size: proper.length, name: nameOf(file), stamp: stampText(header) };
 }
 
 /**
- * What a file is, in a word.
+ * What a file is.
  * @param {import('./texts.mjs').Opened[]} files
- * @returns {string}
+ * @returns {Key}
  */
-function whatIs(files) {
-  if (!files.length) return 'kept as it came';
-  if (files.length > 1 || files[0].name) return 'zip';
-  return { '.txt': 'text', '.bin': 'other', '.zip': 'zip' }[files[0].ending] ?? 'picture';
+function typeOf(files) {
+  if (!files.length) return 'type.kept';
+  if (files.length > 1 || files[0].name) return 'type.zip';
+  /** @type {Record<string, Key>} */
+  const types = { '.txt': 'type.text', '.bin': 'type.other', '.zip': 'type.zip' };
+  return types[files[0].ending] ?? 'type.picture';
+}
+
+/**
+ * What is to be said of a file besides.
+ * @param {StoredFile['header']} header
+ * @param {Key | null} note
+ * @returns {import('./words.mjs').Said | null}
+ */
+function noteOf(header, note) {
+  if (header && isEncrypted(header)) return { key: 'note.encrypted' };
+  const mended = header && mendedOf(header);
+  if (mended) return { key: 'note.mended', values: mended };
+  return note ? { key: note } : null;
 }

@@ -1,25 +1,33 @@
 // The page: a recording or a shelf comes in, and what is received is shown as it comes.
 import { at, element, save } from './elements.mjs';
 import { curveOf } from './curve.mjs';
-import { FORMS, TRIED_BYTES } from './forms.mjs';
+import { CODES, FORMS } from './forms.mjs';
 import { HEADER_BYTES, isShelf } from './shelf.mjs';
 import { View } from './view.mjs';
+import { LANGUAGES, TERMS, counted, fillPage, languageOf, nodesOf, rich, text, use, used, wordsOf } from './words.mjs';
 
 const SAMPLE_WRONG = 8; // wrong bytes in each word of the sample
 const FILLERS_OF_IMAGE = 64; // packets of an image that others may stand in for
-const OLD_BROWSER =
-  "This browser can't run the receiver: it needs memory of 64 bits, as Chrome or Edge 133, or Firefox 134, have it.";
+const NOTHING_CHOSEN = { form: '', code: null };
+const [TORN, NO_MEMORY, DAMAGED] = [6, 9, 12]; // statuses
+const NOTHING_RAN = 256; // the answer of a call that got no memory before its command ran
 
 /**
- * @typedef {Record<string, any>} Message
+ * @typedef {import('./messages.mjs').Task} Task
+ * @typedef {import('./messages.mjs').Told} Told
+ * @typedef {import('./forms.mjs').Found} Found
+ * @typedef {import('./forms.mjs').Code} Code
+ * @typedef {import('./words.mjs').Key} Key
+ * @typedef {import('./words.mjs').Said} Said
  * @typedef {{modules: Record<string, string>, worker: string, sample: string, files: number, version: string}} Lent
+ * @typedef {{[Kind in Told['kind']]?: (message: Extract<Told, {kind: Kind}>) => void}} Heard
  */
 
 /** What the file has besides the page: the modules, the Worker's text, and the sample. @type {Lent} */
 const LENT = JSON.parse(at('lent').textContent);
 
-/** @param {string} text */
-const bytesOfText = (text) => Uint8Array.from(atob(text), (it) => it.charCodeAt(0));
+/** @param {string} inside */
+const bytesOfText = (inside) => Uint8Array.from(atob(inside), (it) => it.charCodeAt(0));
 
 const workerUrl = URL.createObjectURL(new Blob([LENT.worker], { type: 'text/javascript' }));
 
@@ -31,35 +39,37 @@ class Page {
     this.workers = [];
     /** @type {Worker} */
     this.keeper = /** @type {any} */ (null);
-    this.view = new View((message) => this.keeper.postMessage(message));
+    this.view = new View((task) => this.keeper.postMessage(task));
     /** @type {Blob} */
     this.file = new Blob();
+    /** @type {Found | null} how the recording is read */
+    this.found = null;
     this.files = 0;
-    this.pictures = 0;
     this.isSample = false;
     this.began = 0;
-    this.told = 0;
-    this.isStopped = false;
   }
 
   // ---- words on how it goes
 
   /**
-   * @param {string} text
+   * @param {Said} said
    * @param {boolean} [isBad]
    */
-  say(text, isBad = false) {
+  say(said, isBad = false) {
     at('progress-section').hidden = false;
-    at('state').textContent = text;
+    at('state').replaceChildren(...nodesOf(said));
     at('state').className = isBad ? 'bad' : '';
   }
 
   /** @param {boolean} isGoing */
   going(isGoing) {
+    const { activeElement } = document;
     at('going').hidden = !isGoing;
     for (const id of ['sample', 'file']) at(id).disabled = isGoing;
     at('progress').removeAttribute('value');
     at('time').textContent = '';
+    // (focus would fall to the page where its button goes)
+    if (activeElement && ['sample', 'stop'].includes(activeElement.id)) at(isGoing ? 'stop' : 'state').focus();
   }
 
   // ---- workers
@@ -70,7 +80,6 @@ class Page {
     const modules = await Promise.all(compiled);
     this.modules = Object.fromEntries(names.map((name, place) => [name, modules[place]]));
     this.keeper = this.worker('lr_run');
-    at('build').textContent = `Version: ${LENT.version}`;
     this.going(false);
   }
 
@@ -83,8 +92,13 @@ class Page {
     const worker = new Worker(workerUrl);
     worker.onmessage = ({ data }) => this.hear(data);
     worker.onerror = (event) => this.hear({ kind: 'failed', text: event.message });
-    worker.postMessage({ kind: 'load', module: this.modules[name] });
+    worker.postMessage({ kind: 'load', module: this.modules[name], live: this.modules.lr_live });
     return worker;
+  }
+
+  /** @param {Task} task @param {Transferable[]} [given] */
+  ask(task, given = []) {
+    this.keeper.postMessage(task, given);
   }
 
   /** Ends what works on a recording. */
@@ -99,16 +113,15 @@ class Page {
   startSample() {
     this.clear();
     this.isSample = true;
-    this.say('The sample is drawn …');
-    const shelf = bytesOfText(LENT.sample);
-    this.keeper.postMessage({ kind: 'transmit', shelf, files: LENT.files, wrong: SAMPLE_WRONG });
+    this.say({ key: 'state.sample' });
+    this.ask({ kind: 'transmit', shelf: bytesOfText(LENT.sample), files: LENT.files, wrong: SAMPLE_WRONG });
   }
 
   clear() {
     this.endWorkers();
     this.view.clear();
-    this.files = this.pictures = 0;
-    this.isStopped = false;
+    this.files = 0;
+    this.isSample = false;
     at('tries').replaceChildren();
     at('tries-box').hidden = true;
     at('save-recording').hidden = true;
@@ -122,32 +135,25 @@ class Page {
    */
   async start(file) {
     this.clear();
-    this.isSample = false;
     const front = new Uint8Array(await file.slice(0, HEADER_BYTES).arrayBuffer());
     if (!isShelf(front)) return this.startRecording(file);
-    this.say('The shelf is opened …');
-    return this.keeper.postMessage({ kind: 'open', file });
+    this.say({ key: 'state.shelf' });
+    return this.ask({ kind: 'open', file });
   }
 
   /** @param {Blob} file */
   startRecording(file) {
     this.file = file;
-    const [line, g2] = at('code').value.split(' ');
-    const form = at('form').value;
-    if (form && (g2 || FORMS[form].input === 'frames')) {
-      this.receive({ form, code: FORMS[form].input === 'frames' ? null : { line, g2 } });
-    } else if (g2) this.receive({ form: 'signed', code: { line, g2 } });
-    else {
-      this.say('Finding out how the bits were sent …');
-      this.keeper.postMessage({ kind: 'which', file });
-    }
+    this.say({ key: 'state.finding' });
+    this.ask({ kind: 'which', file, chosen: this.isSample ? NOTHING_CHOSEN : chosen() });
   }
 
-  /** @param {import('./forms.mjs').Found} how */
+  /** @param {Found} how */
   receive(how) {
     const found = { ...how, mend: at('mend').checked ? FILLERS_OF_IMAGE : 0 };
+    this.found = found;
     const { port1, port2 } = new MessageChannel();
-    this.keeper.postMessage({ kind: 'keep', port: port1 }, [port1]);
+    this.ask({ kind: 'keep', port: port1 }, [port1]);
     const receiver = this.worker('lr_live');
     this.workers = [receiver];
     this.began = performance.now();
@@ -157,148 +163,203 @@ class Page {
       this.workers.push(judge);
       judge.postMessage({ kind: 'judge', file: this.file, found });
     }
-    this.say(`Receiving ${FORMS[found.form].says}${found.code ? `, ${found.code.line}, g2 ${found.code.g2}` : ''} …`);
+    this.say({ key: 'state.receiving', values: { how: wordsFor(found.form, found.code) } });
   }
 
   stop() {
-    this.isStopped = true;
     this.endWorkers();
-    this.keeper.postMessage({ kind: 'end' });
-    this.say('Stopped. What came until then is kept.');
+    this.ask({ kind: 'end' });
+    this.say({ key: 'state.stopped' });
     this.going(false);
   }
 
   // ---- what is heard
 
-  /** @param {Message} message */
+  /** @param {Told} message */
   hear(message) {
-    const heard = /** @type {any} */ (this)[`hear_${message.kind}`];
-    if (heard) heard.call(this, message);
+    const heard = /** @type {((message: Told) => void) | undefined} */ (this.heard[message.kind]);
+    heard?.(message);
   }
 
-  /** @param {Message} message */
-  hear_failed({ text }) {
-    this.endWorkers();
-    this.going(false);
-    this.say(`It failed: ${text}`, true);
-  }
+  /** @type {Heard} */
+  heard = {
+    failed: ({ text: reason }) => {
+      this.endWorkers();
+      this.going(false);
+      this.say({ key: 'state.failed', values: { reason } }, true);
+    },
+    trouble: ({ text: reason }) => this.say({ key: 'state.trouble', values: { reason } }, true),
+    sample: ({ bytes }) => this.startRecording(new Blob([/** @type {any} */ (bytes)])),
+    tried: (told) => this.hearTried(told),
+    trying: ({ form, code }) => {
+      at('time').textContent = text('state.trying', { how: wordsFor(form, code) });
+    },
+    found: (answer) => this.hearFound(answer),
+    progress: (progress) => this.hearProgress(progress),
+    received: (received) => this.hearReceived(received),
+    opened: (opened) => this.hearOpened(opened),
+    file: (file) => {
+      this.files += 1;
+      this.view.file(file);
+    },
+    picture: (picture) => this.view.picture(picture),
+    sent: (sent) => this.view.sent(sent),
+    text: (told) => this.view.text(told),
+    quality: ({ buckets, total, isWhole = false }) => {
+      at('quality').dataset.isWhole = String(isWhole);
+      at('quality-section').hidden = false;
+      at('quality').replaceChildren(...curveOf(buckets, total));
+    },
+    settled: ({ files, waiting }) => {
+      if (waiting) this.view.offerMore('pictures', () => this.ask({ kind: 'more' }));
+      document.body.dataset.settled = String(files);
+    },
+    saved: ({ name, bytes, type }) => {
+      if (name) save(name, /** @type {any} */ ([bytes]), type);
+    },
+  };
 
-  /** @param {Message} message */
-  hear_trouble({ text }) {
-    this.say(`A file can't be shown: ${text}`, true);
-  }
-
-  /** @param {Message} message */
-  hear_sample({ bytes }) {
-    this.startRecording(new Blob([bytes]));
-  }
-
-  /** @param {Message} told */
-  hear_tried({ says, start, code, frames, restored }) {
-    const where = start ? ', from its middle' : '';
-    const text = `as ${says}${where}, ${code.line}, g2 ${code.g2}: ${restored} of ${frames} frames restored`;
-    at('tries').append(element('li', { textContent: text }));
+  /** @param {import('./messages.mjs').Tried} told */
+  hearTried({ form, start, code, frames, restored }) {
+    const how = wordsFor(form, code);
+    const values = { how: start ? text('tries.middle', { how }) : how, restored, frames };
+    const words = text(frames ? 'tries.restored' : 'tries.nothing', values);
+    at('tries').append(element('li', { textContent: words }));
     at('tries-box').hidden = false;
   }
 
-  /** @param {Message} message */
-  hear_which({ found }) {
+  /** @param {import('./messages.mjs').Answered} answer */
+  hearFound({ found, isEither, reason }) {
+    if (isEither) at('tries').append(element('li', { textContent: text('tries.both') }));
     if (found) return this.receive(found);
     this.going(false);
-    const isShort = this.file.size < TRIED_BYTES / 100;
-    const other = 'Perhaps it has other things in it, or the signal is too weak.';
-    const reason = isShort ? 'The file is very short.' : other;
-    return this.say(`Nothing that this receiver knows was found in the file. ${reason}`, true);
+    return this.say(saidOfReason(/** @type {Reason} */ (reason)), true);
   }
 
-  /** @param {Message} message */
-  hear_progress({ read, size }) {
+  /** @param {import('./messages.mjs').Progress} progress */
+  hearProgress({ read, size }) {
     const bar = at('progress');
     bar.max = size;
     bar.value = read;
     const seconds = (performance.now() - this.began) / 1000;
     const left = Math.ceil(((size - read) * seconds) / Math.max(1, read));
-    const share = Math.floor((100 * read) / Math.max(1, size));
-    const words = left > 90 ? `${Math.round(left / 60)} minutes` : `${left} seconds`;
-    const time = seconds < 1 ? '' : `, about ${words} left`;
-    at('time').textContent = `${share} %${time}. Files so far: ${this.files}`;
+    const values = { share: Math.floor((100 * read) / Math.max(1, size)), files: this.files };
+    if (seconds < 1) at('time').textContent = text('time.none', values);
+    else if (left > 90) at('time').textContent = text('time.minutes', { ...values, count: Math.round(left / 60) });
+    else at('time').textContent = text('time.seconds', { ...values, count: left });
   }
 
-  /** @param {Message} message */
-  hear_received({ status, last, err, fault, memory }) {
+  /** @param {import('./messages.mjs').Received} received */
+  hearReceived({ status, last, err, fault, memory }) {
     document.body.dataset.memory = String(memory);
-    if (status !== 0) this.say(`The receiver ended early: ${[err, fault].filter(Boolean).join('; ')}`, true);
-    else this.say(`All is read. ${summaryOf(last)}`);
+    const reason = isOfMemory(status) ? text('state.memory') : [err, fault].filter(Boolean).join('; ');
+    if (status !== 0) this.say({ key: 'state.early', values: { reason } }, true);
+    else this.say(...summaryOf(last, this.found?.code ?? null));
     this.going(false);
     if (this.isSample) at('save-recording').hidden = false;
   }
 
-  /** @param {Message} message */
-  hear_opened({ status, err, bad }) {
+  /** @param {import('./messages.mjs').Opened} opened */
+  hearOpened({ status, err, bad, files }) {
     this.going(false);
-    if (status !== 0 && status !== 12) this.say(`The shelf can't be opened: ${err}`, true);
-    else if (bad) this.say(`The shelf is open. ${bad} of its files are damaged.`);
-    else this.say('The shelf is open, and each file is whole.');
+    const reason = isOfMemory(status) ? text('state.memory') : err;
+    if (status === TORN && files) this.say(counted('opened.torn', files), true);
+    else if (status !== 0 && status !== DAMAGED) this.say({ key: 'opened.failed', values: { reason } }, true);
+    else if (bad) this.say(counted('opened.bad', bad), true);
+    else this.say({ key: files ? 'opened.whole' : 'opened.empty' });
   }
+}
 
-  /** @param {Message} file */
-  hear_file(file) {
-    this.files += 1;
-    this.view.file(file);
-  }
+/** @typedef {import('./reasons.mjs').Reason} Reason */
 
-  /** @param {Message} picture */
-  hear_picture(picture) {
-    this.view.picture(picture);
-  }
+/** @param {number} status */
+const isOfMemory = (status) => status === NO_MEMORY || status === NOTHING_RAN;
 
-  /** @param {Message} sent */
-  hear_sent(sent) {
-    this.view.sent(sent);
-  }
-
-  /** @param {Message} text */
-  hear_text(text) {
-    this.view.text(text);
-  }
-
-  /** @param {Message} message */
-  hear_quality({ buckets, total, isWhole = false }) {
-    at('quality').dataset.isWhole = String(isWhole);
-    at('quality-section').hidden = false;
-    at('quality').replaceChildren(...curveOf(buckets, total));
-  }
-
-  /** @param {Message} message */
-  hear_settled({ files, waiting }) {
-    if (waiting) this.view.offerMore('pictures', () => this.keeper.postMessage({ kind: 'more' }));
-    document.body.dataset.settled = String(files);
-  }
-
-  /** @param {Message} saved */
-  hear_saved({ name, bytes, parts, type }) {
-    if (name) save(name, parts ?? [bytes], type);
-  }
+/**
+ * What the settings say.
+ * @returns {import('./search.mjs').Chosen}
+ */
+function chosen() {
+  const [line, g2] = at('code').value.split(' ');
+  return { form: at('form').value, code: g2 ? { line, g2 } : null };
 }
 
 /**
- * The last line of `receive` in words.
- * @param {string} line as `symbols 7700480 frames 470 restored 470 lost 0 packets 54 files 6 left 0 stop end`
+ * Why nothing was found. Where a setting may be to blame, that is said.
+ * @param {Reason} reason
+ * @returns {Said}
+ */
+function saidOfReason({ key, isSure, heard }) {
+  const { form, code } = chosen();
+  if (!isSure && !heard && key !== 'short' && (form || code)) return { key: 'state.nothing' };
+  const said = /** @type {Key} */ (`reason.${key}`);
+  return heard ? { key: said, values: { how: wordsFor(heard.form, heard.code), frames: heard.frames } } : { key: said };
+}
+
+/**
+ * How a recording is read, in words.
+ * @param {string} form
+ * @param {Code | null} code
  * @returns {string}
  */
-function summaryOf(line) {
+function wordsFor(form, code) {
+  const words = text(/** @type {Key} */ (`form.${form}`));
+  return code ? `${words}, ${text('code', code)}` : words;
+}
+
+/**
+ * The last line of `receive` in words, and whether it is bad news.
+ * @param {string} line as `symbols 7700480 frames 470 restored 470 lost 0 packets 54 files 6 left 0 stop end`
+ * @param {Code | null} code none where frames were read
+ * @returns {[Said, boolean]}
+ */
+function summaryOf(line, code) {
   const words = line.split(' ');
   /** @param {string} name */
-  const after = (name) => words[words.indexOf(name) + 1];
-  const files = Number(after('files'));
-  const came = files === 1 ? '1 file came' : `${files} files came`;
-  return `${after('restored')} of ${after('frames')} frames were restored, and ${came}.`;
+  const after = (name) => Number(words[words.indexOf(name) + 1]);
+  const [frames, restored] = [after('frames'), after('restored')];
+  if (!restored || (!code && at('form').value && !after('files'))) return [{ key: 'state.nothing' }, true];
+  const values = { frames, restored, lost: frames - restored, files: wordsOf(counted('files', after('files'))) };
+  if (!code) return [{ key: 'state.done.frames', values }, false];
+  return [{ key: frames === restored ? 'state.done.all' : 'state.done.some', values }, false];
+}
+
+/** The choices of the settings, and the glossary, in the language. */
+function fillLists() {
+  const find = () => element('option', { value: '', textContent: text('settings.find') });
+  const codes = CODES.map(({ line, g2 }) => {
+    const key = line === 'nrz-m' && g2 === 'plain' ? 'code.goes' : 'code';
+    return element('option', { value: `${line} ${g2}`, textContent: text(key, { line, g2 }) });
+  });
+  const forms = Object.keys(FORMS).map((it) => element('option', { value: it, textContent: wordsFor(it, null) }));
+  for (const [id, options] of Object.entries({ code: codes, form: forms })) {
+    const { value } = at(id);
+    at(id).replaceChildren(find(), ...options);
+    at(id).value = value;
+  }
+  at('glossary').replaceChildren(
+    ...TERMS.flatMap((it) => [
+      element('dt', { textContent: text(`term.${it}`) }),
+      element('dd', { textContent: text(`about.${it}`) }),
+    ]),
+  );
+  at('build').textContent = text('about.build', { version: LENT.version });
+}
+
+/** @param {string} code */
+function speak(code) {
+  use(code);
+  fillPage();
+  fillLists();
 }
 
 const page = new Page();
-for (const [value, { says }] of Object.entries(FORMS)) {
-  at('form').append(element('option', { value, textContent: says }));
+for (const [value, { name }] of Object.entries(LANGUAGES)) {
+  at('language').append(element('option', { value, textContent: name, lang: value }));
 }
+speak(languageOf(navigator.languages));
+at('language').value = used();
+at('language').onchange = () => speak(at('language').value);
 at('sample').onclick = () => page.startSample();
 at('file').onchange = () => {
   const [file] = at('file').files;
@@ -306,8 +367,8 @@ at('file').onchange = () => {
   if (file) page.start(file);
 };
 at('stop').onclick = () => page.stop();
-at('save-all').onclick = () => page.keeper.postMessage({ kind: 'saveAll' });
-at('save-shelf').onclick = () => page.keeper.postMessage({ kind: 'saveShelf' });
+at('save-all').onclick = () => page.ask({ kind: 'saveAll' });
+at('save-shelf').onclick = () => page.ask({ kind: 'saveShelf' });
 at('save-recording').onclick = () => save('sample.soft', [page.file], 'application/octet-stream');
 const drop = at('drop');
 document.ondragover = (event) => {
@@ -323,5 +384,5 @@ document.ondrop = (event) => {
 };
 page.load().catch((fault) => {
   const isOld = fault instanceof WebAssembly.CompileError || fault instanceof TypeError;
-  page.say(isOld ? OLD_BROWSER : `It failed: ${fault}`, true);
+  page.say(isOld ? { key: 'state.old' } : { key: 'state.failed', values: { reason: String(fault) } }, true);
 });

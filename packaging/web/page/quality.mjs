@@ -1,9 +1,11 @@
 // How well a reception goes over its length, from the lines of `decode`.
 
 const BUCKETS = 160;
+const WORD_LIMIT = 16; // bytes of a word that one pass can correct; more tell that it was decoded again
 
 /**
- * @typedef {{frames: number, lost: number, corrected: number}} Bucket
+ * Frames, those lost, those restored by decoding them again, and corrected bytes.
+ * @typedef {{frames: number, lost: number, redecoded: number, corrected: number}} Bucket
  */
 
 /** The outcomes of frames by their places. */
@@ -12,8 +14,8 @@ export class Curve {
   constructor(symbols) {
     this.symbols = Math.max(1, symbols);
     /** @type {Bucket[]} */
-    this.buckets = Array.from({ length: BUCKETS }, () => ({ frames: 0, lost: 0, corrected: 0 }));
-    this.total = { frames: 0, lost: 0, corrected: 0 };
+    this.buckets = Array.from({ length: BUCKETS }, () => ({ frames: 0, lost: 0, redecoded: 0, corrected: 0 }));
+    this.total = { frames: 0, lost: 0, redecoded: 0, corrected: 0 };
   }
 
   /**
@@ -25,10 +27,13 @@ export class Curve {
     if (words[0] !== 'window' || words.length < 8) return;
     const place = Math.min(BUCKETS - 1, Math.floor((Number(words[3]) / this.symbols) * BUCKETS));
     const isLost = words[6] === 'lost';
-    const corrected = isLost ? 0 : words.slice(7, 11).reduce((sum, it) => sum + Number(it), 0);
+    const numbers = isLost ? [] : words.slice(7, 11).map(Number);
+    const corrected = numbers.reduce((sum, it) => sum + it, 0);
+    const isRedecoded = numbers.some((it) => it > WORD_LIMIT);
     for (const it of [this.buckets[place], this.total]) {
       it.frames += 1;
       it.lost += isLost ? 1 : 0;
+      it.redecoded += isRedecoded ? 1 : 0;
       it.corrected += corrected;
     }
   }

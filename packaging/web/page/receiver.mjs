@@ -2,16 +2,18 @@
 // write to the shelf goes to the keeper too, which so holds the same bytes at any moment: if this Worker is ended the
 // shelf is as a power cut would leave it.
 import { FileInput, MemoryShelf, bytesOf } from './devices.mjs';
-import { FORMS, TRIED_BYTES, optionsOf } from './forms.mjs';
+import { FORMS, optionsOf } from './forms.mjs';
+import { TRIED_BYTES } from './search.mjs';
 import { Curve, lineReader } from './quality.mjs';
 import { MOST_CAPACITY } from './shelf.mjs';
 
+export const PASSES = ['--passes', '4']; // lost frames are decoded again
 const TOLD_MILLISECONDS = 100; // between two words on how far it is
 
 /**
  * @typedef {import('./station.mjs').Station} Station
  * @typedef {import('./forms.mjs').Found} Found
- * @typedef {(message: Record<string, unknown>) => void} Tell
+ * @typedef {(message: import('./messages.mjs').Told) => void} Tell
  * @typedef {{kind: 'write', place: number, bytes: Uint8Array} | {kind: 'cut', length: number}
  *   | {kind: 'shelved'}} Change
  */
@@ -88,14 +90,13 @@ export function receive(station, file, found, keep, tell) {
   const reception = new Reception(keep);
   const { shelf, put } = reception;
   station.live(['init', String(MOST_CAPACITY)], { input: { take: () => 0 }, shelf, put });
-  const start = performance.now();
   const input = inputOf(file, found.form, tell);
   const mending = found.mend ? ['--mend', String(found.mend)] : [];
-  const status = station.live(['receive', ...optionsOf(found), ...mending], { input, shelf, put });
+  const status = station.live(['receive', ...optionsOf(found), ...PASSES, ...mending], { input, shelf, put });
   const { last, err } = reception;
   const fault = station.fault ? String(station.fault) : '';
   const memory = station.memory.buffer.byteLength;
-  tell({ kind: 'received', status, last, err: err.trim(), fault, memory, milliseconds: performance.now() - start });
+  tell({ kind: 'received', status, last, err: err.trim(), fault, memory });
 }
 
 /**
@@ -112,6 +113,7 @@ export function judge(station, file, found, tell) {
   const told = () => tell({ kind: 'quality', buckets: curve.buckets, total: curve.total });
   const input = inputOf(file, found.form, told);
   const shelf = new MemoryShelf();
-  station.live(['decode', ...optionsOf(found)], { input, shelf, put: (output, bytes) => output === 1 && lines(bytes) });
+  const put = (/** @type {number} */ output, /** @type {Uint8Array} */ bytes) => output === 1 && lines(bytes);
+  station.live(['decode', ...optionsOf(found), ...PASSES], { input, shelf, put });
   tell({ kind: 'quality', buckets: curve.buckets, total: curve.total, isWhole: true });
 }

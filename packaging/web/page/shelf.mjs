@@ -8,6 +8,7 @@ const VERSIONS = [1, 2];
 export const HEADER_BYTES = 19;
 const CHECKSUM_BYTES = 2;
 const OPEN = 0x01;
+export const CLOSED = 0x00;
 const FILE = 0x80;
 const DISCARD = 0x81;
 const DISCARD_BYTES = 11;
@@ -21,7 +22,7 @@ export const MOST_CAPACITY = 2 ** 40;
 const POLYNOMIAL = 0x1021;
 
 /**
- * @typedef {import('./devices.mjs').MemoryShelf} MemoryShelf
+ * @typedef {{length(): number, slice(place: number, count: number): Uint8Array}} Shelved where a shelf's bytes are
  * @typedef {object} Head where an item stands
  * @property {number} gate the place of its gate
  * @property {number} extent its bytes, without the gate
@@ -76,7 +77,7 @@ export function isShelf(front) {
 
 /**
  * The items of a shelf from a gate on, up to where they break off; a shelf that still grows has more of them later.
- * @param {MemoryShelf} shelf
+ * @param {Shelved} shelf
  * @param {number} gate
  * @param {number} number of the next file
  * @returns {Generator<Head>}
@@ -93,7 +94,7 @@ export function* headsOf(shelf, gate = HEADER_BYTES, number = 0) {
 
 /**
  * The item after a gate, or null where the gate is closed or nothing sound follows.
- * @param {MemoryShelf} shelf
+ * @param {Shelved} shelf
  * @param {number} gate
  * @param {number} number
  * @returns {Head | null}

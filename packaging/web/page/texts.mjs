@@ -120,22 +120,22 @@ export async function unzipped(bytes) {
 }
 
 /**
- * What is in a file that is no image: itself, or the files of a zip; and a word where it can't be opened.
+ * What is in a file that is no image: itself, or the files of a zip; and why where it can't be opened.
  * @param {StoredFile} file
- * @returns {Promise<{files: Opened[], note: string}>}
+ * @returns {Promise<{files: Opened[], note: import('./words.mjs').Key | null}>}
  */
 export async function inside(file) {
   const { header, data } = file;
-  if (!header) return { files: [], note: 'its header has a fault, so it is kept as it came' };
-  if (isEncrypted(header)) return { files: [], note: 'it is encrypted, so it is kept as it came' };
+  if (!header) return { files: [], note: 'note.header' };
+  if (isEncrypted(header)) return { files: [], note: 'note.encrypted' };
   if (!isZip(data)) {
     const { ending, bytes } = opened(data, header.fileType === TYPES.gts || header.fileType === TYPES.text);
-    return { files: [{ name: '', ending, bytes }], note: '' };
+    return { files: [{ name: '', ending, bytes }], note: null };
   }
   try {
-    return { files: await unzipped(data), note: '' };
+    return { files: await unzipped(data), note: null };
   } catch (fault) {
     if (!(fault instanceof BadZip)) throw fault;
-    return { files: [{ name: '', ending: '.zip', bytes: data }], note: `it stays a zip: ${fault.message}` };
+    return { files: [{ name: '', ending: '.zip', bytes: data }], note: fault.key };
   }
 }

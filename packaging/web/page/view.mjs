@@ -1,12 +1,18 @@
 // What the page shows of a shelf: pictures, texts, and a table of files. Each list begins with a part, and more is
 // shown when it is asked for.
 import { at, button, element } from './elements.mjs';
+import { counted, nodesOf, rich, text, wordsOf } from './words.mjs';
 
 const MOST = { texts: 40, files: 200 }; // that are shown until more is asked for
 
 /**
- * @typedef {(message: Record<string, unknown>) => void} Ask
- * @typedef {Record<string, any>} Message
+ * @typedef {(task: import('./messages.mjs').Task) => void} Ask
+ * @typedef {import('./messages.mjs').FileTold} FileTold
+ * @typedef {import('./messages.mjs').TextTold} TextTold
+ * @typedef {import('./messages.mjs').PictureTold} PictureTold
+ * @typedef {import('./messages.mjs').SentTold} SentTold
+ * @typedef {import('./messages.mjs').About} About
+ * @typedef {import('./words.mjs').Said} Said
  */
 
 export class View {
@@ -60,77 +66,78 @@ export class View {
    * @param {() => void} show
    */
   offerMore(list, show) {
-    const more = button('Show more', `Show more ${list}`, () => {
+    const label = text(`${list}.more`);
+    const more = button(label, label, () => {
       more.remove();
       show();
     });
     at(`${list}-more`).replaceChildren(more);
   }
 
-  /** @param {Message} file */
+  /** @param {FileTold} file */
   file(file) {
     this.put('files', () => this.rowOf(file));
   }
 
-  /** @param {Message} file */
-  rowOf(file) {
-    const what = [file.what, file.note].filter(Boolean).join(': ');
-    const cells = [file.number, file.name, file.stamp, what, file.size, file.corrected];
-    const row = element('tr', {}, ...cells.map((it) => element('td', { textContent: it ?? '' })));
-    const saves = button('as it came', `Save file ${file.number} as it came`, () =>
-      this.ask({ kind: 'saveFile', number: file.number, member: -1 }),
-    );
-    row.append(element('td', {}, ...(file.size === undefined ? [] : [saves])));
+  /** @param {FileTold} file */
+  rowOf({ number, name, stamp, size, corrected, type, note }) {
+    const isDamaged = type === 'type.damaged';
+    const what = [text(type), note ? wordsOf(note) : ''].filter(Boolean).join(': ');
+    const cells = [number, name || text('file.name', { number }), stamp, what, isDamaged ? '' : size, isDamaged ? '' : corrected];
+    const row = element('tr', {}, ...cells.map((it) => element('td', { textContent: String(it) })));
+    if (isDamaged) row.className = 'bad';
+    const ask = () => this.ask({ kind: 'saveFile', number, member: -1 });
+    const saves = button(text('files.save'), text('files.saves', { number }), ask);
+    row.append(element('td', {}, ...(isDamaged ? [] : [saves])));
     return row;
   }
 
-  /** @param {Message} text */
-  text(text) {
-    this.put('texts', () => this.boxOf(text));
+  /** @param {TextTold} told */
+  text(told) {
+    this.put('texts', () => this.boxOf(told));
   }
 
-  /** @param {Message} text */
-  boxOf(text) {
-    const title = text.heading ? `${text.heading} · ${text.name}` : text.name;
+  /** @param {TextTold} told */
+  boxOf({ number, member, name, stamp, heading, text: inside, isCut }) {
+    const title = heading ? `${heading} · ${name}` : name;
     const box = element('article', {}, element('h3', { textContent: title }));
-    const note = [text.stamp, text.isCut ? 'this is its beginning' : ''].filter(Boolean).join(' · ');
-    const pre = element('pre', { textContent: text.text, tabIndex: 0 });
+    const note = [stamp, isCut ? text('text.cut') : ''].filter(Boolean).join(' · ');
+    const pre = element('pre', { textContent: inside.replace(/^\n+/, ''), tabIndex: 0 });
     pre.setAttribute('aria-label', title);
-    const ask = () => this.ask({ kind: 'saveFile', number: text.number, member: text.member });
-    const saves = button('Save the text', `Save the text of ${title}`, ask);
+    const ask = () => this.ask({ kind: 'saveFile', number, member });
+    const saves = button(text('text.save'), text('text.saves', { title }), ask);
     box.append(element('p', { className: 'small', textContent: note }), pre, saves);
     return box;
   }
 
   /**
-   * A picture that was drawn, or drawn anew.
-   * @param {Message} picture
+   * A picture that was drawn, or drawn again.
+   * @param {PictureTold} picture
    */
   picture(picture) {
-    const none = 'No picture can be had of it here.';
-    const shown = picture.shown ? canvasOf(picture) : element('p', { textContent: none });
-    const size = picture.columns ? `${picture.columns} × ${picture.lines}` : '';
-    const words = [picture.name, picture.stamp, size, picture.note, lacksOf(picture)];
-    const caption = element('figcaption', {}, captionOf(words));
-    const ask = () => this.ask({ kind: 'save', id: picture.id });
-    if (picture.shown) caption.append(button('Save as PNG', `Save the picture ${picture.name} as PNG`, ask));
-    this.putFigure(picture.id, shown, caption);
+    const { id, name, stamp, columns, lines, note } = picture;
+    const shown = picture.shown ? canvasOf(picture, picture.shown) : element('p', { textContent: text('picture.none') });
+    const size = columns && lines ? text('picture.size', { columns, lines }) : '';
+    const caption = element('figcaption', {}, ...captionOf([name, stamp, size, note ? text(note) : ''], picture));
+    const ask = () => this.ask({ kind: 'save', id });
+    if (picture.shown) caption.append(button(text('view.save'), text('view.saves', { name }), ask));
+    this.putFigure(id, shown, caption);
   }
 
   /**
    * A picture that is shown as it was sent.
-   * @param {Message} sent
+   * @param {SentTold} sent
    */
   sent(sent) {
     const url = URL.createObjectURL(new Blob([sent.bytes], { type: sent.type }));
     this.urls.push(url);
-    const image = element('img', { src: url, alt: `${sent.name}, as it was sent` });
-    image.onerror = () => image.replaceWith(element('p', { textContent: "The browser can't read it." }));
-    const caption = element('figcaption', {}, captionOf([sent.name, sent.stamp, 'as it was sent', lacksOf({ mended: sent.mended })]));
-    const { id, number, member } = sent;
-    const what = id === undefined ? { kind: 'saveFile', number, member } : { kind: 'save', id };
-    caption.append(button('Save the picture', `Save the picture ${sent.name}`, () => this.ask(what)));
-    this.putFigure(sent.id, image, caption);
+    const { id, number, member, name } = sent;
+    const image = element('img', { src: url, alt: `${name}, ${text('picture.sent')}` });
+    image.onerror = () => image.replaceWith(element('p', { textContent: text('picture.unread') }));
+    const caption = element('figcaption', {}, ...captionOf([name, sent.stamp, text('picture.sent')], sent));
+    const ask = () => this.ask(id === undefined ? { kind: 'saveFile', number, member } : { kind: 'save', id });
+    caption.append(button(text('files.save'), text('view.saves', { name }), ask));
+    this.putFigure(id, image, caption);
   }
 
   /**
@@ -151,30 +158,40 @@ export class View {
   }
 }
 
-/** @param {unknown[]} words */
-function captionOf(words) {
-  return element('p', { textContent: words.filter(Boolean).join(' · ') });
+/**
+ * The words below a picture, and what it lacks.
+ * @param {string[]} words
+ * @param {About} about
+ */
+function captionOf(words, about) {
+  const lacks = lacksOf(about).flatMap((it) => [' ', element('p', { className: 'lacks' }, ...nodesOf(it))]);
+  return [element('p', { textContent: words.filter(Boolean).join(' · ') }), ...lacks];
 }
 
-/** @param {Message} picture */
-function lacksOf({ missing, mended }) {
-  const segments = missing ? `segments missing: ${missing}` : '';
-  const packets = mended ? `${mended.fillers} of ${mended.packets} packets were lost, and are filled in` : '';
-  return [segments, packets].filter(Boolean).join('; ');
+/**
+ * What a picture lacks.
+ * @param {About} about
+ * @returns {Said[]}
+ */
+function lacksOf({ missing, lacking, mended }) {
+  const segments = lacking ? [counted('picture.segments', lacking, { numbers: missing })] : [];
+  return mended ? [...segments, { key: 'picture.packets', values: mended }] : segments;
 }
 
 /**
  * A canvas with a picture on it.
- * @param {Message} picture
+ * @param {PictureTold} about
+ * @param {import('./messages.mjs').Shown} shown
  * @returns {HTMLCanvasElement}
  */
-function canvasOf({ name, stamp, shown, missing, mended }) {
+function canvasOf(about, shown) {
   const canvas = element('canvas', { width: shown.columns, height: shown.lines });
   const image = new ImageData(shown.columns, shown.lines);
   const words = new Uint32Array(image.data.buffer);
   for (let at = 0; at < words.length; at += 1) words[at] = 0xff000000 | (shown.grey[at] * 0x10101);
   canvas.getContext('2d').putImageData(image, 0, 0);
   canvas.setAttribute('role', 'img');
-  canvas.setAttribute('aria-label', [`Picture ${name}`, stamp, lacksOf({ missing, mended })].filter(Boolean).join(', '));
+  const label = [about.name, about.stamp, ...lacksOf(about).map(wordsOf)].filter(Boolean).join(', ');
+  canvas.setAttribute('aria-label', label);
   return canvas;
 }

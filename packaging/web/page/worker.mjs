@@ -1,41 +1,54 @@
-// The Worker: one with `lr_live` receives, and one with `lr_run` keeps the shelf. Which one it is, its module says.
-import { bytesOf } from './devices.mjs';
+// The Worker: one with `lr_live` receives, and one with both modules keeps the shelf.
 import { Keeper } from './keeper.mjs';
 import { judge, receive } from './receiver.mjs';
 import { Station } from './station.mjs';
 
+/**
+ * @typedef {import('./messages.mjs').Task} Task
+ * @typedef {import('./messages.mjs').Told} Told
+ */
+
 /** @type {Station} */
 let station;
+/** @type {WebAssembly.Module} */
+let live;
 /** @type {Keeper} */
 let keeper;
 
-/** @param {Record<string, any>} message */
+/** @param {Told} message */
 const tell = (message) => postMessage(message);
 
-/** @type {Record<string, (message: any) => unknown>} */
+/**
+ * Hears what becomes of the shelf of a reception.
+ * @param {MessagePort} port
+ */
+function keep(port) {
+  keeper.begin();
+  const { run } = keeper;
+  port.onmessage = ({ data }) => {
+    if (keeper.run !== run) return;
+    if (data.kind === 'end') keeper.end();
+    else keeper.change(data);
+  };
+}
+
+/** @type {{[Kind in Task['kind']]: (task: Extract<Task, {kind: Kind}>) => unknown}} */
 const TASKS = {
-  load: ({ module }) => {
-    station = new Station(module);
+  load: (given) => {
+    station = new Station(given.module);
+    live = given.live;
     keeper = new Keeper(station, tell);
   },
-  which: ({ file }) => keeper.which(file),
+  which: ({ file, chosen }) => keeper.which(file, chosen),
   transmit: ({ shelf, files, wrong }) => keeper.transmit(shelf, files, wrong),
   receive: ({ file, found, port }) => {
     receive(station, file, found, (change) => port.postMessage(change), tell);
     port.postMessage({ kind: 'end' });
   },
   judge: ({ file, found }) => judge(station, file, found, tell),
-  keep: ({ port }) => {
-    keeper.begin();
-    const { run } = keeper;
-    port.onmessage = (/** @type {MessageEvent} */ { data }) => {
-      if (keeper.run !== run) return;
-      if (data.kind === 'end') keeper.end();
-      else keeper.change(data);
-    };
-  },
+  keep: ({ port }) => keep(port),
   end: () => keeper.end(),
-  open: ({ file }) => keeper.open(bytesOf(file)),
+  open: ({ file }) => keeper.open(file, new Station(live)),
   more: () => keeper.more(),
   save: ({ id }) => keeper.save(id),
   saveFile: ({ number, member }) => keeper.saveFile(number, member),
@@ -43,11 +56,12 @@ const TASKS = {
   saveShelf: () => keeper.saveShelf(),
 };
 
+/** @param {{data: Task}} event */
 onmessage = async ({ data }) => {
   try {
-    await TASKS[data.kind](data);
+    await /** @type {(task: Task) => unknown} */ (TASKS[data.kind])(data);
     tell({ kind: 'did', task: data.kind });
   } catch (fault) {
-    tell({ kind: 'failed', task: data.kind, text: String(fault instanceof Error ? fault.message : fault) });
+    tell({ kind: 'failed', text: String(fault instanceof Error ? fault.message : fault) });
   }
 };

@@ -20,8 +20,14 @@ const REGULAR = 0x8000;
 const MOST_WRITTEN = 0xffffffff;
 const MOST_WRITTEN_FILES = 0xffff;
 
-/** A zip that isn't unpacked. */
-export class BadZip extends Error {}
+/** A zip that isn't unpacked, and the key of the text that says why. */
+export class BadZip extends Error {
+  /** @param {import('./words.mjs').Key} key */
+  constructor(key) {
+    super(key);
+    this.key = key;
+  }
+}
 
 /**
  * @typedef {{name: string, flags: number, method: number, sum: number, packed: number, size: number, mode: number,
@@ -60,13 +66,13 @@ function entriesOf(bytes) {
   const first = Math.max(0, bytes.length - END_BYTES - MOST_REMARK);
   let end = bytes.length - END_BYTES;
   while (end >= first && view.getUint32(end, true) !== END) end -= 1;
-  if (end < first || end < 0) throw new BadZip("it can't be read");
+  if (end < first || end < 0) throw new BadZip('note.zip.unreadable');
   const count = view.getUint16(end + 10, true);
-  if (count > MOST_FILES) throw new BadZip('it has too many files');
+  if (count > MOST_FILES) throw new BadZip('note.zip.many');
   const entries = [];
   let place = view.getUint32(end + 16, true);
   for (let number = 0; number < count; number += 1) {
-    if (place + CENTRAL_BYTES > end || view.getUint32(place, true) !== CENTRAL) throw new BadZip("it can't be read");
+    if (place + CENTRAL_BYTES > end || view.getUint32(place, true) !== CENTRAL) throw new BadZip('note.zip.unreadable');
     entries.push(entryAt(bytes, view, place));
     place += CENTRAL_BYTES + [28, 30, 32].reduce((sum, it) => sum + view.getUint16(place + it, true), 0);
   }
@@ -107,9 +113,9 @@ function isFile({ name, mode }) {
 function packedBytes(bytes, entry) {
   const view = viewOf(bytes);
   const { place } = entry;
-  if (place + LOCAL_BYTES > bytes.length || view.getUint32(place, true) !== LOCAL) throw new BadZip("it can't be read");
+  if (place + LOCAL_BYTES > bytes.length || view.getUint32(place, true) !== LOCAL) throw new BadZip('note.zip.unreadable');
   const start = place + LOCAL_BYTES + view.getUint16(place + 26, true) + view.getUint16(place + 28, true);
-  if (start + entry.packed > bytes.length) throw new BadZip("it can't be read");
+  if (start + entry.packed > bytes.length) throw new BadZip('note.zip.unreadable');
   return bytes.subarray(start, start + entry.packed);
 }
 
@@ -129,7 +135,7 @@ async function taken(stream, room) {
     size += value.length;
     if (size > room) {
       reader.cancel().catch(() => {});
-      throw new BadZip('it is too large when it is unpacked');
+      throw new BadZip('note.zip.large');
     }
     parts.push(value);
   }
@@ -170,13 +176,13 @@ export function through(bytes, stream, room) {
  */
 async function unpacked(bytes, entry, room) {
   if (entry.flags & ENCRYPTED || ![STORED, DEFLATED].includes(entry.method)) {
-    throw new BadZip('a file in it is encrypted, or packed in another way');
+    throw new BadZip('note.zip.packing');
   }
-  if (entry.size > room) throw new BadZip('it is too large when it is unpacked');
+  if (entry.size > room) throw new BadZip('note.zip.large');
   const packed = packedBytes(bytes, entry);
   const inside = entry.method === STORED ? packed.slice() : await inflated(packed, room);
-  if (inside.length > room) throw new BadZip('it is too large when it is unpacked');
-  if (crc32(inside) !== entry.sum) throw new BadZip('the checksum of a file in it is wrong');
+  if (inside.length > room) throw new BadZip('note.zip.large');
+  if (crc32(inside) !== entry.sum) throw new BadZip('note.zip.sum');
   return inside;
 }
 
@@ -193,7 +199,7 @@ async function inflated(packed, room) {
     return await through(packed, inflater(), room);
   } catch (fault) {
     if (fault instanceof BadZip) throw fault;
-    throw new BadZip("it can't be read");
+    throw new BadZip('note.zip.unreadable');
   }
 }
 
@@ -203,7 +209,7 @@ async function inflated(packed, room) {
  * @returns {Promise<{name: string, bytes: Uint8Array}[]>}
  */
 export async function membersOf(bytes) {
-  if (bytes.length < END_BYTES) throw new BadZip("it can't be read");
+  if (bytes.length < END_BYTES) throw new BadZip('note.zip.unreadable');
   let room = Math.min(MOST_BYTES, MOST_RATIO * bytes.length);
   const found = [];
   for (const entry of entriesOf(bytes).filter(isFile)) {
@@ -211,7 +217,7 @@ export async function membersOf(bytes) {
     room -= inside.length;
     found.push({ name: entry.name, bytes: inside });
   }
-  if (!found.length) throw new BadZip('it has no file');
+  if (!found.length) throw new BadZip('note.zip.empty');
   return found;
 }
 
@@ -224,7 +230,7 @@ export class ZipWriter {
     const day = ((when.getUTCFullYear() - 1980) << 9) | ((when.getUTCMonth() + 1) << 5) | when.getUTCDate();
     const time = (when.getUTCHours() << 11) | (when.getUTCMinutes() << 5) | (when.getUTCSeconds() >> 1);
     this.moment = (day << 16) | time;
-    /** @type {Uint8Array[]} */
+    /** @type {Blob[]} (a browser may keep these on a disk) */
     this.parts = [];
     /** @type {Uint8Array[]} */
     this.list = [];
@@ -240,7 +246,7 @@ export class ZipWriter {
     const place = this.size;
     const about = [IS_UTF8, STORED, this.moment, crc32(bytes), bytes.length, bytes.length, encoded.length];
     const local = fields([LOCAL, 4], [20, 2], ...sized(about), [0, 2]);
-    this.parts.push(local, encoded, bytes);
+    this.parts.push(new Blob(/** @type {any} */ ([local, encoded, bytes])));
     this.size += local.length + encoded.length + bytes.length;
     /** @type {[number, number][]} no extra, no remark, one disk, and no attributes */
     const rest = [[0, 2], [0, 2], [0, 2], [0, 2], [0, 4], [place, 4]];
@@ -250,12 +256,12 @@ export class ZipWriter {
     }
   }
 
-  /** @returns {Uint8Array[]} */
+  /** @returns {Blob} */
   end() {
     const size = this.list.reduce((sum, it) => sum + it.length, 0);
     const count = this.list.length / 2;
     const end = fields([END, 4], [0, 2], [0, 2], [count, 2], [count, 2], [size, 4], [this.size, 4], [0, 2]);
-    return [...this.parts, ...this.list, end];
+    return new Blob(/** @type {any} */ ([...this.parts, ...this.list, end]));
   }
 }
 

@@ -1,9 +1,9 @@
 // Forms of recordings, and the curve of the quality.
 import assert from 'node:assert';
 import test from 'node:test';
-import { CODES, FORMS, formsOf, optionsOf, which } from '../page/forms.mjs';
+import { CODES, FORMS, formsOf, optionsOf } from '../page/forms.mjs';
 import { Curve, lineReader } from '../page/quality.mjs';
-import { inWordsOf } from '../page/curve.mjs';
+import { saidOf } from '../page/curve.mjs';
 import { Heap } from '../page/heap.mjs';
 import { textOf } from '../page/station.mjs';
 
@@ -51,7 +51,8 @@ test('what bytes look like', () => {
   assert.equal(formsOf(new Uint8Array(Float32Array.from(levels).buffer))[0], 'f32le');
   assert.ok(formsOf(new Uint8Array(Int16Array.from(levels, (it) => 4000 * it).buffer)).includes('s16le'));
   assert.deepEqual(formsOf(Uint8Array.from(levels, (it) => Number(it > 0))), ['bits']);
-  assert.deepEqual(formsOf(Uint8Array.from(levels, (it) => 128 + 60 * it)), ['unsigned', 'packed']);
+  assert.deepEqual(formsOf(Uint8Array.from(levels, (it) => 128 + 60 * it)), ['signed', 'unsigned', 'packed']);
+  assert.equal(formsOf(new Uint8Array(1000))[0], 'signed', 'silence is no bits');
 });
 
 test('the words of a found form', () => {
@@ -59,39 +60,20 @@ test('the words of a found form', () => {
   assert.deepEqual(optionsOf({ form: 'cadu', code: null }), ['--input', 'frames']);
 });
 
-/** A module in which one code restores bytes that begin so. */
-const locking = (code, first) => ({
-  run: (words, { input }) => {
-    const locks = words[2] === code.line && words[4] === code.g2 && input[0] === first;
-    const outcome = locks ? 'restored 0 1 2 3' : 'lost 0';
-    return { out: new TextEncoder().encode(`window 0 at 0 polarity + ${outcome}\nsymbols 1 frames 1\n`) };
-  },
-});
-
-test('the code that locks is found, and each try is told', () => {
-  const told = [];
-  const bytes = new Uint8Array(1000).fill(5);
-  const read = (start, count) => bytes.slice(start, start + count);
-  const found = which(locking(CODES[2], 5), bytes.length, read, (it) => told.push(it));
-  assert.deepEqual(found, { form: 'signed', code: CODES[2] });
-  assert.equal(told.length, 4);
-  assert.deepEqual(told.map((it) => it.restored), [0, 0, 1, 0]);
-  const flipped = which(locking(CODES[0], 5 ^ 0x80), bytes.length, read, () => {});
-  assert.deepEqual(flipped, { form: 'unsigned', code: CODES[0] });
-  assert.equal(which(locking(CODES[0], 99), bytes.length, read, () => {}), null);
-  assert.equal(which(locking(CODES[0], 99), 0, () => new Uint8Array(0), () => {}), null, 'an empty file');
-});
-
 test('the curve counts by places', () => {
   const curve = new Curve(1600);
   const lines = lineReader((line) => curve.take(line));
-  const text = 'window 0 at 0 polarity + restored 1 2 3 4\nwindow 1 at 805 polarity - lost 2\nsymbols 1600 frames 2\n';
+  const first = 'window 0 at 0 polarity + restored 1 2 3 4\nwindow 1 at 805 polarity - lost 2\n';
+  const text = `${first}window 2 at 806 polarity - restored 1 17 9 13\nsymbols 1600 frames 3\n`;
   for (const it of text) lines(new TextEncoder().encode(it));
-  assert.deepEqual(curve.buckets[0], { frames: 1, lost: 0, corrected: 10 });
-  assert.deepEqual(curve.buckets[80], { frames: 1, lost: 1, corrected: 0 });
-  assert.deepEqual(curve.total, { frames: 2, lost: 1, corrected: 10 });
-  assert.match(inWordsOf(curve.total), /Of 2 frames 1 were lost \(50 %\).* 10\.0 bytes/);
-  assert.equal(inWordsOf({ frames: 0, lost: 0, corrected: 0 }), 'No frame was found.');
+  assert.deepEqual(curve.buckets[0], { frames: 1, lost: 0, redecoded: 0, corrected: 10 });
+  assert.deepEqual(curve.buckets[80], { frames: 2, lost: 1, redecoded: 1, corrected: 40 });
+  assert.deepEqual(curve.total, { frames: 3, lost: 1, redecoded: 1, corrected: 50 });
+  const [lost, again, corrected] = saidOf(curve.total);
+  assert.deepEqual(lost, { key: 'quality.lost', values: { frames: 3, lost: 1, share: '33' } });
+  assert.deepEqual(again, { key: 'quality.again', values: { count: 1 } });
+  assert.deepEqual(corrected, { key: 'quality.corrected', values: { mean: '25.0', most: 64 } });
+  assert.deepEqual(saidOf({ frames: 0, lost: 0, redecoded: 0, corrected: 0 }), [{ key: 'quality.none' }]);
 });
 
 test('blocks of the heap: aligned, apart, within the memory, and used again', () => {

@@ -1,7 +1,7 @@
 // The shelf's bytes: those of docs/FORMATS.md, hostile ones, and a shelf that grows.
 import assert from 'node:assert';
 import test from 'node:test';
-import { MemoryShelf } from '../page/devices.mjs';
+import { FileShelf, MemoryShelf } from '../page/devices.mjs';
 import { fileOf, headsOf, isShelf, shelfOf } from '../page/shelf.mjs';
 import { bytesOf, itemOf, missionFile, shelfBytes } from './support.mjs';
 
@@ -73,6 +73,48 @@ test('a shelf in memory is that of a file', () => {
   const into = new Uint8Array(5);
   assert.equal(shelf.read(shelf.length() - 2, into), 2);
   assert.equal(shelf.read(shelf.length() + 2, into), 0);
+});
+
+/** A file whose bytes are there at once, as a Worker reads them. */
+class PlainFile {
+  constructor(bytes) {
+    this.bytes = bytes;
+    this.size = bytes.length;
+  }
+
+  slice(from, to) {
+    return new PlainFile(this.bytes.slice(from, to));
+  }
+}
+
+test('a shelf that is read from its file in windows is the one in memory', () => {
+  globalThis.FileReaderSync = class {
+    readAsArrayBuffer(part) {
+      return part.bytes.slice().buffer;
+    }
+  };
+  const bytes = Uint8Array.from({ length: 9 << 20 }, (_, at) => (at * 7 + (at >> 8)) & 255);
+  const file = new FileShelf(new PlainFile(bytes));
+  const memory = new MemoryShelf(bytes);
+  const places = [0, 5, (4 << 20) - 1, 4 << 20, 1, (9 << 20) - 3, 9 << 20, (8 << 20) + 1, 12];
+  for (const place of places) {
+    for (const count of [1, 40, 70_000, (4 << 20) + 5]) {
+      assert.deepEqual(file.slice(place, count), memory.slice(place, count), `${count} from ${place}`);
+      const [one, other] = [new Uint8Array(count), new Uint8Array(count)];
+      assert.equal(file.read(place, one), memory.read(place, other));
+      assert.ok(Buffer.from(one.buffer).equals(Buffer.from(other.buffer)));
+    }
+  }
+  assert.throws(() => file.write(), /only read/);
+});
+
+test('the front of a shelf as a file', async () => {
+  const bytes = Uint8Array.from({ length: 3 << 20 }, (_, at) => at & 255);
+  const shelf = new MemoryShelf(bytes);
+  for (const count of [0, 10, 1 << 20, (2 << 20) + 7]) {
+    const front = new Uint8Array(await shelf.front(count).arrayBuffer());
+    assert.ok(Buffer.from(front).equals(Buffer.from(bytes.subarray(0, count))), `${count}`);
+  }
 });
 
 test('an annotation of another length than its record is no header', () => {

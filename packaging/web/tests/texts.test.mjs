@@ -88,18 +88,18 @@ test('the files of a zip, with names of their own', async () => {
 
 test('stored files, and links that are left out', async () => {
   assert.equal(text((await membersOf(zipped([['a', bytesOf('plain')]], { stored: true })))[0].bytes), 'plain');
-  await assert.rejects(membersOf(zipped([['a', bytesOf('x')]], { mode: 0xa1ff })), /it has no file/);
+  await assert.rejects(membersOf(zipped([['a', bytesOf('x')]], { mode: 0xa1ff })), /zip\.empty/);
 });
 
 const BAD = [
-  ['too many files', zipped(Array.from({ length: MOST_FILES + 1 }, (_, it) => [`${it}`, [65]])), /too many files/],
-  ['a bomb', zipped([['a', new Uint8Array(40 << 20)]]), /too large/],
-  ['a bomb that says of 1 byte', zipped([['a', new Uint8Array(40 << 20)]], { size: 1 }), /too large/],
-  ['an encrypted file', zipped([['a', bytesOf('x')]], { flags: 1 }), /encrypted/],
-  ['another packing', zipped([['a', bytesOf('x')]], { method: 12 }), /another way/],
-  ['a wrong checksum', zipped([['a', bytesOf('x')]], { sum: 1 }), /checksum/],
-  ['no list', zipped([['a', bytesOf('x')]]).slice(0, -22), /can't be read/],
-  ['four bytes', bytes('PK\x03\x04'), /can't be read/],
+  ['too many files', zipped(Array.from({ length: MOST_FILES + 1 }, (_, it) => [`${it}`, [65]])), /zip\.many/],
+  ['a bomb', zipped([['a', new Uint8Array(40 << 20)]]), /zip\.large/],
+  ['a bomb that says of 1 byte', zipped([['a', new Uint8Array(40 << 20)]], { size: 1 }), /zip\.large/],
+  ['an encrypted file', zipped([['a', bytesOf('x')]], { flags: 1 }), /zip\.packing/],
+  ['another packing', zipped([['a', bytesOf('x')]], { method: 12 }), /zip\.packing/],
+  ['a wrong checksum', zipped([['a', bytesOf('x')]], { sum: 1 }), /zip\.sum/],
+  ['no list', zipped([['a', bytesOf('x')]]).slice(0, -22), /zip\.unreadable/],
+  ['four bytes', bytes('PK\x03\x04'), /zip\.unreadable/],
 ];
 for (const [name, zip, word] of BAD) test(`a zip with ${name} stays one`, () => assert.rejects(membersOf(zip), word));
 
@@ -116,14 +116,14 @@ test('each front and each changed byte of a zip is read or refused, and nothing 
 
 test('bombs beside each other share the room', async () => {
   const many = Array.from({ length: 80 }, (_, it) => [`${it}`, new Uint8Array(1 << 20)]);
-  await assert.rejects(membersOf(zipped(many)), /too large/);
+  await assert.rejects(membersOf(zipped(many)), /zip\.large/);
 });
 
 test('what is inside a file', async () => {
   const file = (data, records = [], type = 2) => fileOf(itemOf(0, missionFile(type, records, data)), 0);
   assert.equal((await inside(file(bytesOf('hello')))).files[0].ending, '.txt');
-  assert.match((await inside(file(bytesOf('hello'), [record(7, [1])]))).note, /encrypted/);
-  assert.match((await inside(file(zipped([['a', bytesOf('x')]], { sum: 1 })))).note, /stays a zip/);
+  assert.match((await inside(file(bytesOf('hello'), [record(7, [1])]))).note, /note\.encrypted/);
+  assert.match((await inside(file(zipped([['a', bytesOf('x')]], { sum: 1 })))).note, /note\.zip\.sum/);
   assert.equal((await inside(file([0, 1], [], 130))).files[0].ending, '.bin');
 });
 
@@ -131,7 +131,7 @@ test('a zip that is written is one that others read', async () => {
   const writer = new ZipWriter(new Date(Date.UTC(2026, 10, 29, 17, 0, 20)));
   writer.add('one.txt', bytes('first'));
   writer.add('zwei-ä.bin', Uint8Array.of(0, 1, 2));
-  const all = Uint8Array.from(Buffer.concat(writer.end()));
+  const all = new Uint8Array(await writer.end().arrayBuffer());
   const found = await membersOf(all);
   assert.deepEqual(found.map((it) => [it.name, text(it.bytes)]), [['one.txt', 'first'], ['zwei-ä.bin', '\0\x01\x02']]);
 });

@@ -1,0 +1,53 @@
+// What the page and its Workers say to each other: types alone. Each message has its kind, by which it is told from the
+// others.
+
+/**
+ * @typedef {import('./words.mjs').Key} Key
+ * @typedef {import('./words.mjs').Said} Said
+ * @typedef {import('./forms.mjs').Found} Found
+ * @typedef {import('./search.mjs').Chosen} Chosen
+ * @typedef {import('./search.mjs').Try} Try
+ * @typedef {import('./xrit.mjs').Mended} Mended
+ * @typedef {import('./quality.mjs').Bucket} Bucket
+ *
+ * What a Worker is asked for.
+ * @typedef {{kind: 'load', module: WebAssembly.Module, live: WebAssembly.Module}} Load live: for what reads a file
+ * @typedef {{kind: 'which', file: Blob, chosen: Chosen}} Which
+ * @typedef {{kind: 'transmit', shelf: Uint8Array, files: number, wrong: number}} Transmit
+ * @typedef {{kind: 'receive', file: Blob, found: Found, port: MessagePort}} Receive
+ * @typedef {{kind: 'judge', file: Blob, found: Found}} Judge
+ * @typedef {{kind: 'keep', port: MessagePort}} Keep
+ * @typedef {{kind: 'open', file: Blob}} Open
+ * @typedef {{kind: 'save', id: number}} Save
+ * @typedef {{kind: 'saveFile', number: number, member: number}} SaveFile member: -1 for the file as it was received
+ * @typedef {{kind: 'end' | 'more' | 'saveAll' | 'saveShelf'}} Plain
+ * @typedef {Load | Which | Transmit | Receive | Judge | Keep | Open | Save | SaveFile | Plain} Task
+ *
+ * What it tells.
+ * @typedef {{kind: 'did', task: string}} Did
+ * @typedef {{kind: 'failed' | 'trouble', text: string}} Failed
+ * @typedef {{kind: 'sample', bytes: Uint8Array}} Sample
+ * @typedef {{kind: 'tried'} & Try} Tried
+ * @typedef {{kind: 'trying'} & import('./search.mjs').Trying} Trying
+ * @typedef {{kind: 'found'} & import('./search.mjs').Answer} Answered
+ * @typedef {{kind: 'progress', read: number, size: number}} Progress
+ * @typedef {{kind: 'received', status: number, last: string, err: string, fault: string, memory: number}} Received
+ * @typedef {{kind: 'opened', status: number, err: string, bad: number, files: number}} Opened
+ * @typedef {{kind: 'file', number: number, name: string, stamp: string, size: number, corrected: number, type: Key,
+ *   note: Said | null}} FileTold
+ * @typedef {{name: string, stamp: string, missing: string, lacking: number, mended: Mended | null}} About of a picture:
+ *   which segments are missing, and how many
+ * @typedef {{columns: number, lines: number, grey: Uint8Array}} Shown
+ * @typedef {{kind: 'picture', id: number, columns?: number, lines?: number, shown: Shown | null, note?: Key} & About
+ *   } PictureTold
+ * @typedef {{kind: 'sent', id?: number, number: number, member: number, bytes: Uint8Array, type: string} & About
+ *   } SentTold id: of a picture, and none where it stands in another file
+ * @typedef {{kind: 'text', number: number, member: number, name: string, stamp: string, heading: string, text: string,
+ *   isCut: boolean}} TextTold
+ * @typedef {{kind: 'quality', buckets: Bucket[], total: Bucket, isWhole?: boolean}} Quality
+ * @typedef {{kind: 'settled', files: number, waiting: number}} Settled
+ * @typedef {{kind: 'saved', name?: string, bytes?: Uint8Array | Blob, type: string}} Saved
+ * @typedef {Did | Failed | Sample | Trying | Tried | Answered | Progress | Received | Opened | FileTold | PictureTold | SentTold
+ *   | TextTold | Quality | Settled | Saved} Told
+ */
+export {};
