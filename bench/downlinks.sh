@@ -1,9 +1,11 @@
 #!/bin/sh
-# Wall time of four recordings of FRAMES frames (2,048) of the test stream onto one shelf: by `downlinks` of their bundle, and by four calls of
-# `receive` with one worker, one after another. Beside them `receive` of all their frames as they were restored, which has no symbols to decode:
-# layers, appends and lines, of which `downlinks` makes the appends under its lock. Runs take turns, and the best of RUNS (5) is taken. Then one run
-# over a bundle of 786,384 files of ten bytes.
-# Usage: bench/downlinks.sh [RUNS [FRAMES [FOLDER]]]; FOLDER (/dev/shm) is where shelf and streams stand. Needs rt and python3.
+# Wall time of four recordings of FRAMES frames (2,048) of the test stream onto one shelf: by `downlinks` of their
+# bundle, and by four calls of `receive` with one worker, one after another. Beside them `receive` of all their frames
+# as they were restored, which has no symbols to decode: layers, appends and lines, of which `downlinks` makes the
+# appends under its lock. Runs take turns, and the best of RUNS (5) is taken. Then one run over a bundle of 786,384
+# files of ten bytes.
+# Usage: bench/downlinks.sh [RUNS [FRAMES [FOLDER]]]; FOLDER (/dev/shm) is where shelf and streams stand. Needs rt and
+# python3.
 set -e
 top=$(cd "$(dirname "$0")/.." && pwd)
 scratch=$(mktemp -d "${3:-/dev/shm}/downlinks.XXXXXX")

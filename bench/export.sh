@@ -1,7 +1,8 @@
 #!/bin/sh
-# Pixels exported a second from a file on a shelf in memory, on one core: lr_bench beside a plain program in C that does the same
-# work. First an image of 8 bits that isn't compressed, then one of coded lines of 10 bits, beside libaec (Debian: libaec-dev;
-# left out where it isn't installed) and beside the decoder of the lines alone. The lines are coded by reference/lines.py.
+# Pixels exported a second from a file on a shelf in memory, on one core: lr_bench beside a plain program in C that does
+# the same work. First an image of 8 bits that isn't compressed, then one of coded lines of 10 bits, beside libaec
+# (Debian: libaec-dev; left out where it isn't installed) and beside the decoder of the lines alone. The lines are coded
+# by reference/lines.py.
 # Usage: bench/export.sh [RUNS]. The best of RUNS runs is taken (5). Needs rt, gcc and python3.
 set -e
 top=$(cd "$(dirname "$0")/.." && pwd)

@@ -1,7 +1,7 @@
 #!/bin/sh
-# Pixels decoded a second from coded lines of some 5,500 columns at 10 bits, and pixels of such lines coded a second at 8 and
-# 10 bits, on one core: lr_bench beside libaec as it is
-# installed (Debian: libaec-dev; left out where it isn't). The lines are drawn and coded by reference/lines.py.
+# Pixels decoded a second from coded lines of some 5,500 columns at 10 bits, and pixels of such lines coded a second at
+# 8 and 10 bits, on one core: lr_bench beside libaec as it is installed (Debian: libaec-dev; left out where it isn't).
+# The lines are drawn and coded by reference/lines.py.
 # Usage: bench/lines.sh [RUNS] [ROUNDS]. The best of RUNS runs (5) is taken, each of ROUNDS rounds (40) of 100 lines.
 set -e
 top=$(cd "$(dirname "$0")/.." && pwd)

@@ -1,4 +1,5 @@
-// The lock in C: `lock noise ROUNDS` and `lock locked ROUNDS` feed the symbols that lr_bench feeds, and print the same line.
+// The lock in C: `lock noise ROUNDS` and `lock locked ROUNDS` feed the symbols that lr_bench feeds, and print the same
+// line.
 #include <stdbool.h>
 #include <stdint.h>
 #include <stdio.h>

@@ -1,6 +1,6 @@
 #!/bin/sh
-# Symbols a second through the lock, over noise and over frames, on one core: lr_bench beside the same loop in C (gcc -O3).
-# Then frames a second from window to outcome, by lr_bench alone.
+# Symbols a second through the lock, over noise and over frames, on one core: lr_bench beside the same loop in C (gcc
+# -O3). Then frames a second from window to outcome, by lr_bench alone.
 # Usage: bench/lock.sh [RUNS]. The best of RUNS runs is taken (5). Needs rt and gcc.
 set -e
 top=$(cd "$(dirname "$0")/.." && pwd)

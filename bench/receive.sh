@@ -1,10 +1,11 @@
 #!/bin/sh
-# Where the time of a frame goes, on one core. First `receive` of clean frames of the test stream, from a file to a synced shelf,
-# by the program: its time, its processor time, and symbols a second. Below it each step of a frame, by lr_bench: the processor
-# time, user and system, beside that of the same work in C where there is one (bench/*.c, by gcc -O3; for words libfec, Debian's
-# libfec-dev, left out where it isn't installed). The last column says whether both printed the same checksum.
-# Usage: bench/receive.sh [RUNS [FRAMES]]. The two sides take turns, and the best of RUNS runs (5) is taken, `receive` of FRAMES
-# frames (1024). Needs rt, gcc and python3.
+# Where the time of a frame goes, on one core. First `receive` of clean frames of the test stream, from a file to a
+# synced shelf, by the program: its time, its processor time, and symbols a second. Below it each step of a frame, by
+# lr_bench: the processor time, user and system, beside that of the same work in C where there is one (bench/*.c, by gcc
+# -O3; for words libfec, Debian's libfec-dev, left out where it isn't installed). The last column says whether both
+# printed the same checksum.
+# Usage: bench/receive.sh [RUNS [FRAMES]]. The two sides take turns, and the best of RUNS runs (5) is taken, `receive`
+# of FRAMES frames (1024). Needs rt, gcc and python3.
 set -e
 top=$(cd "$(dirname "$0")/.." && pwd)
 runs=${1:-5}

@@ -1,6 +1,6 @@
 // The words that lr_bench draws, restored by libfec (Debian's libfec-dev) in place of lr_rs.
-// Usage: NAME ROUNDS, with NAME rs0, rs1, rs8, rs16 or rs17. Prints the same line: up to sixteen wrong bytes the checksum
-// has to be the same; beyond them libfec answers as it does.
+// Usage: NAME ROUNDS, with NAME rs0, rs1, rs8, rs16 or rs17. Prints the same line: up to sixteen wrong bytes the
+// checksum has to be the same; beyond them libfec answers as it does.
 #include <fec.h>
 #include <inttypes.h>
 #include <stdint.h>

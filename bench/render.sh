@@ -1,7 +1,8 @@
 #!/bin/sh
-# Pixels a second of all images of a shelf in memory: by `export` of each file, one after another, and by `render` with 1, 2 and 4 that work.
-# First images of 8 bits that aren't compressed, then coded ones of 5,500 columns of 10 bits, and then many small coded ones. Runs take turns,
-# and the best of RUNS (5) is taken. The texts have to be the same each time. The lines are coded by reference/lines.py.
+# Pixels a second of all images of a shelf in memory: by `export` of each file, one after another, and by `render` with
+# 1, 2 and 4 that work. First images of 8 bits that aren't compressed, then coded ones of 5,500 columns of 10 bits, and
+# then many small coded ones. Runs take turns, and the best of RUNS (5) is taken. The texts have to be the same each
+# time. The lines are coded by reference/lines.py.
 # Usage: bench/render.sh [RUNS]. Needs rt and python3.
 set -e
 top=$(cd "$(dirname "$0")/.." && pwd)

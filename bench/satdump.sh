@@ -1,8 +1,9 @@
 #!/bin/sh
 # Processor time, user and system, of `decode` and of SatDump up to its transfer frames, over the same symbols: clean
 # frames of the test stream. `decode` of the program for x86-64-v3 has a line of its own, where it is built and the
-# processor has what it needs. SatDump's pipeline goes_lrit wants a second symbol that isn't complemented, so that symbol of each pair of
-# `make` is turned first, and `decode` has `--g2 plain`. SatDump's frames have to be those of `make`.
+# processor has what it needs. SatDump's pipeline goes_lrit wants a second symbol that isn't complemented, so that
+# symbol of each pair of `make` is turned first, and `decode` has `--g2 plain`. SatDump's frames have to be those of
+# `make`.
 # Usage: bench/satdump.sh ROOT [RUNS [FRAMES]]. ROOT is a folder with a Debian system that has SatDump, as
 #   mmdebstrap --variant=apt --include=satdump trixie ROOT
 # makes it; chroot enters it, so this runs as root. Without a ROOT nothing is compared. They take turns, and the best of

@@ -1,10 +1,12 @@
 #!/bin/sh
 # Appends a second on a shelf in a file, beside a plain loop of two writes and two syncs in C; the time that a shelf of
-# 100,000 small files takes to load, from a file and from memory, where at most 50 ms are wanted; the memory that it keeps of
-# a file, where at most 16 bytes are wanted, as the greatest resident memory of a process that loads 2,097,152 files, less that
-# of one that loads 1,048,576; and how often `verify` reads the disk for a small file, where at most 2 reads are wanted.
-# Usage: bench/shelf.sh [FOLDER [APPENDS [RUNS]]]. The folder is on the disk to be measured (the current one), with 100 MB
-# free; the two take turns, and the best of this many runs is taken (500 appends, 15 runs). Needs rt, gcc and python3.
+# 100,000 small files takes to load, from a file and from memory, where at most 50 ms are wanted; the memory that it
+# keeps of a file, where at most 16 bytes are wanted, as the greatest resident memory of a process that loads 2,097,152
+# files, less that of one that loads 1,048,576; and how often `verify` reads the disk for a small file, where at most 2
+# reads are wanted.
+# Usage: bench/shelf.sh [FOLDER [APPENDS [RUNS]]]. The folder is on the disk to be measured (the current one), with 100
+# MB free; the two take turns, and the best of this many runs is taken (500 appends, 15 runs). Needs rt, gcc and
+# python3.
 set -e
 top=$(cd "$(dirname "$0")/.." && pwd)
 folder=${1:-.}

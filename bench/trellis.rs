@@ -1,4 +1,5 @@
-// The plain trellis in plain Rust: `trellis path WINDOWS` decodes drawn windows as lr_bench does, and prints the same line.
+// The plain trellis in plain Rust: `trellis path WINDOWS` decodes drawn windows as lr_bench does, and prints the same
+// line.
 const BITS: usize = 8160;
 const STEPS: usize = BITS + 6;
 const FAR: u32 = 508 * STEPS as u32 + 1;

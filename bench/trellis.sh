@@ -1,9 +1,9 @@
 #!/bin/sh
-# Frames and symbols decoded a second, on one core: lr_bench by its plain kernel, by lanes of 32 bits and by lanes of sixteen
-# bits, beside the plain loop in C (gcc -O3) and in Rust (rustc -O; left out where it isn't installed). Each program draws 64
-# windows first, and goes through them again and again.
-# Usage: bench/trellis.sh [RUNS] [WINDOWS]. The best of RUNS runs (5) is taken, each of WINDOWS windows (1000). The programs
-# take turns, so that a load on the machine meets all of them. Needs rt and gcc.
+# Frames and symbols decoded a second, on one core: lr_bench by its plain kernel, by lanes of 32 bits and by lanes of
+# sixteen bits, beside the plain loop in C (gcc -O3) and in Rust (rustc -O; left out where it isn't installed). Each
+# program draws 64 windows first, and goes through them again and again.
+# Usage: bench/trellis.sh [RUNS] [WINDOWS]. The best of RUNS runs (5) is taken, each of WINDOWS windows (1000). The
+# programs take turns, so that a load on the machine meets all of them. Needs rt and gcc.
 set -e
 top=$(cd "$(dirname "$0")/.." && pwd)
 runs=${1:-5}

@@ -1,9 +1,9 @@
 #!/bin/sh
-# Processor time, user and system, of `decode` and of VOLK's Viterbi decoder with libfec's Reed-Solomon decoder over the same
-# symbols: clean frames of the test stream. These two are told where each frame begins, and print nothing but the frames,
-# which have to be those of `make`. `decode` of the program for x86-64-v3 has a line of its own, where it is built and the
-# processor has what it needs. Usage: bench/volk.sh [RUNS [FRAMES]]. They take turns, and the best of RUNS runs (5) of FRAMES
-# frames (8192) is taken. Needs rt, gcc and Debian's packages libvolk2-dev and libfec-dev.
+# Processor time, user and system, of `decode` and of VOLK's Viterbi decoder with libfec's Reed-Solomon decoder over the
+# same symbols: clean frames of the test stream. These two are told where each frame begins, and print nothing but the
+# frames, which have to be those of `make`. `decode` of the program for x86-64-v3 has a line of its own, where it is
+# built and the processor has what it needs. Usage: bench/volk.sh [RUNS [FRAMES]]. They take turns, and the best of RUNS
+# runs (5) of FRAMES frames (8192) is taken. Needs rt, gcc and Debian's packages libvolk2-dev and libfec-dev.
 set -e
 top=$(cd "$(dirname "$0")/.." && pwd)
 runs=${1:-5}

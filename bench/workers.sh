@@ -1,10 +1,10 @@
 #!/bin/sh
-# `receive` of clean frames of the test stream, from a file to a synced shelf, with 1, 2, 4, 8 and 64 that work on windows: the
-# time of the run, the processor time of all threads, and how many times faster than with 1 it is. Beside it what the
-# caller's thread does alone (it feeds the lock, joins files, shelves and prints): the time with 1, less that from windows to
-# outcomes by lr_bench. Output and shelf have to be the same each time.
-# Usage: bench/workers.sh [RUNS [FRAMES [FOLDER]]]. The best of this many runs is taken, in turn (3 runs of 8192 frames). The
-# folder is where shelf and stream lie, by default that of temporary files. Needs rt and python3.
+# `receive` of clean frames of the test stream, from a file to a synced shelf, with 1, 2, 4, 8 and 64 that work on
+# windows: the time of the run, the processor time of all threads, and how many times faster than with 1 it is. Beside
+# it what the caller's thread does alone (it feeds the lock, joins files, shelves and prints): the time with 1, less
+# that from windows to outcomes by lr_bench. Output and shelf have to be the same each time.
+# Usage: bench/workers.sh [RUNS [FRAMES [FOLDER]]]. The best of this many runs is taken, in turn (3 runs of 8192
+# frames). The folder is where shelf and stream lie, by default that of temporary files. Needs rt and python3.
 set -e
 top=$(cd "$(dirname "$0")/.." && pwd)
 runs=${1:-3}

@@ -105,6 +105,8 @@ class Draw(random.Random):
         words = [command] + (["--input", form] if command != "packets" else [])
         if command != "packets" and self.random() < 0.5:
             words += ["--workers", str(self.choice((1, 2, 3, 4, 8)))]
+        if command != "packets" and self.random() < 0.5:
+            words += ["--passes", str(self.choice((1, 2, 3, 4)))]
         if self.random() < 0.2:
             words += ["--symbols", str(self.randrange(400000))]
         options = self.options()

@@ -17,6 +17,8 @@ SHELF = os.path.join(FOLDER, "shelf")
 FILES_A_SECOND = 400
 READERS = 6
 WIDTH = 8
+# the commands by what they read: one file, two that stand side by side, all
+ONE, PAIR, ALL = ("show", "extract", "export"), ("assemble", "transmit"), ("list", "verify", "render")
 # each read of the shelf waits for 2 milliseconds first
 SLOWED = ["strace", "-f", "-o", "/dev/null", "-e", "trace=pread64", "-e", "inject=pread64:delay_enter=2000"]
 IS_PLAIN = sys.argv[4:] == ["plain"]
@@ -30,11 +32,19 @@ def pixels(number):
     return bytes((number + place) & 255 for place in range(WIDTH * lines_of(number)))
 
 
+def pgm(lines, content):
+    return b"P5\n%d %d\n255\n" % (WIDTH, lines) + content
+
+
 def proper(number):
-    """The file of this number after its transport header: an image of 8 columns."""
+    """The file of this number after its transport header: an image of 8 columns, one of two segments of an image."""
     structure = bytes([1, 0, 9, 8]) + WIDTH.to_bytes(2, "big") + lines_of(number).to_bytes(2, "big") + bytes([0])
-    sizes = (16 + len(structure)).to_bytes(4, "big") + (8 * len(pixels(number))).to_bytes(8, "big")
-    return bytes([0, 0, 16, 0]) + sizes + structure + pixels(number)
+    first = number - number % 2
+    start = lines_of(first) if number % 2 else 0
+    fields = (number // 2 & 0xFFFF, number % 2, 0, start, 2, WIDTH, lines_of(first) + lines_of(first + 1))
+    segment = bytes([128, 0, 17]) + b"".join(field.to_bytes(2, "big") for field in fields)
+    sizes = (16 + len(structure + segment)).to_bytes(4, "big") + (8 * len(pixels(number))).to_bytes(8, "big")
+    return bytes([0, 0, 16, 0]) + sizes + structure + segment + pixels(number)
 
 
 def frame(number):
@@ -56,15 +66,28 @@ def must(*words):
     return done.stdout
 
 
+def images_in(text):
+    """The images of `render`, one after another."""
+    images = []
+    while text:
+        head = text.split(b"\n", 3)
+        lines = int(head[1].split()[1])
+        size = len(pgm(lines, bytes(WIDTH * lines)))
+        images.append(text[:size])
+        text = text[size:]
+    return images
+
+
 class Readers:
     """Threads that call the program again and again, and what was wrong with the calls."""
 
     def __init__(self, gone=()):
         self.lock = threading.Lock()
         self.calls, self.slowed, self.statuses, self.wrong = 0, 0, {}, []
-        # how many files there are at least, and the lists and checks to hold against the last ones
-        self.known, self.lists, self.checks = 0, [], []
-        self.gone = set(gone)
+        # how many files there are at least, and the lists, checks and sent pairs to hold against the last ones
+        self.known, self.lists, self.checks, self.pairs = 0, [], [], []
+        # the files that may be discarded, and those of which a coded copy stands at the end, in order
+        self.gone, self.copied = set(gone), []
         self.going = True
         self.threads = [threading.Thread(target=self.work, args=(seed,)) for seed in range(READERS)]
         for thread in self.threads:
@@ -75,25 +98,31 @@ class Readers:
         while self.going:
             # the last reader is slowed, and the one before it now and then
             slowed = not IS_PLAIN and (seed == READERS - 1 or seed == READERS - 2 and draw.random() < 0.2)
-            kind = draw.choice(("list", "show", "extract", "export", "show", "extract", "export", "verify"))
-            if kind in ("list", "verify") and self.known > 4000 and draw.random() < 0.8:
+            kind = draw.choice(ONE + ONE + PAIR + ALL)
+            if kind in ALL and self.known > 4000 and draw.random() < 0.8:
                 kind = "show"
             self.call(kind, draw, slowed)
 
     def call(self, kind, draw, slowed):
         with self.lock:
             known = self.known
-        if kind in ("show", "extract", "export"):
+        if kind in ONE:
             if known == 0:
                 return
             # as often as not one of the newest
             number = draw.randrange(known) if draw.random() < 0.5 else max(0, known - 1 - draw.randrange(3))
             done = run(kind, str(number), before=SLOWED if slowed else ())
             self.held(kind, number, done)
+        elif kind in PAIR:
+            if min(known, sent()) < 2:
+                return
+            first = 2 * draw.randrange(min(known, sent()) // 2)
+            words = ("100", str(first // 2 & 0xFFFF)) if kind == "assemble" else ("0",)
+            done = run(kind, str(first), str(first + 2), *words, before=SLOWED if slowed else ())
+            self.held_pair(kind, first, done)
         else:
-            number = None
             done = run(kind, before=SLOWED if slowed else ())
-            self.held_all(kind, done)
+            self.held_all(kind, known, done)
         with self.lock:
             self.calls += 1
             self.slowed += slowed
@@ -112,22 +141,62 @@ class Readers:
             self.bad(f"{kind} {number} ended with {done.returncode}: {done.stderr.decode().strip()}")
         elif kind == "extract" and number < sent() and done.stdout != proper(number):
             self.bad(f"extract {number} wrote other bytes")
-        elif kind == "export" and number < sent() and done.stdout != b"P5\n%d %d\n255\n" % (WIDTH, lines_of(number)) + pixels(number):
+        elif kind == "export" and number < sent() and done.stdout != pgm(lines_of(number), pixels(number)):
             self.bad(f"export {number} wrote another image")
         elif kind == "show" and not done.stdout.startswith(b"file %d " % number):
             self.bad(f"show {number} printed {done.stdout[:60]}")
 
-    def held_all(self, kind, done):
+    def held_pair(self, kind, first, done):
+        """Two files, sent or put together: with a file that may be discarded meanwhile only the status is looked at."""
+        if first in self.gone or first + 1 in self.gone:
+            if done.returncode not in (0, 8):
+                self.bad(f"{kind} {first} ended with {done.returncode}: {done.stderr.decode().strip()}")
+        elif done.returncode != 0:
+            self.bad(f"{kind} {first} ended with {done.returncode}: {done.stderr.decode().strip()}")
+        elif kind == "transmit":
+            with self.lock:
+                self.pairs.append((first, done.stdout))
+        else:
+            whole = pgm(lines_of(first) + lines_of(first + 1), pixels(first) + pixels(first + 1))
+            if done.stdout != whole or done.stderr != b"assembled 2 skipped 0 uncovered 0\n":
+                self.bad(f"assemble {first} wrote another image, or told {done.stderr.decode().strip()}")
+
+    def held_all(self, kind, known, done):
+        """All files: at least as many as were known before the call."""
         if done.returncode != 0:
             self.bad(f"{kind} ended with {done.returncode}: {done.stderr.decode().strip()}")
             return
+        if kind == "render":
+            return self.held_images(known, done)
         lines = done.stdout.splitlines()
+        count = len(lines) - 1 if kind == "list" else len(lines)
+        if count < known:
+            self.bad(f"{kind} printed {count} entries, and {known} were there before")
         with self.lock:
             if kind == "list":
                 self.lists.append(lines[:-1])
-                self.known = max(self.known, len(lines) - 1)
+                self.known = max(self.known, count)
             else:
                 self.checks.append(lines)
+
+    def held_images(self, known, done):
+        """Each image in its place, but for files that may be discarded meanwhile, then those of the coded copies."""
+        images = images_in(done.stdout)
+        if done.stderr != b"rendered %d skipped 0\n" % len(images):
+            self.bad(f"render wrote {len(images)} images, and told {done.stderr.decode().strip()}")
+        with self.lock:
+            numbers = list(range(sent())) + self.copied
+        place = entries = 0
+        for number in numbers:
+            if place < len(images) and images[place] == pgm(lines_of(number), pixels(number)):
+                place += 1
+            elif number not in self.gone:
+                break
+            entries += 1
+        if place < len(images):
+            self.bad(f"render wrote another image as its {place}th")
+        elif entries < known:
+            self.bad(f"render wrote the images of {entries} entries, and {known} were there before")
 
     def end(self):
         self.going = False
@@ -135,19 +204,27 @@ class Readers:
             thread.join()
 
     def compare(self):
-        """Each list and each check is a front of the last one, but for files that were discarded meanwhile."""
-        for kind, texts, last in (("list", self.lists, must("list").splitlines()[:-1]), ("verify", self.checks, must("verify").splitlines())):
+        """Each list and each check is a front of the last one, but for files that were discarded meanwhile, and what
+        was sent is what is sent now."""
+        listed, verified = must("list").splitlines()[:-1], must("verify").splitlines()
+        for kind, texts, last in (("list", self.lists, listed), ("verify", self.checks, verified)):
             for lines in texts:
                 for number, (line, now) in enumerate(zip(lines, last)):
                     if line != now and number not in self.gone:
                         self.bad(f"{kind} printed {line} for {now}")
                 if len(lines) > len(last):
                     self.bad(f"{kind} printed {len(lines)} lines, and {len(last)} stand")
+        firsts = {first for first, _ in self.pairs}
+        sends = {first: must("transmit", str(first), str(first + 2), "0") for first in firsts}
+        for first, text in self.pairs:
+            if text != sends[first]:
+                self.bad(f"transmit {first} wrote other symbols")
 
     def told(self, beside):
         self.compare()
         counts = ", ".join(f"{kind} {status}: {count}" for (kind, status), count in sorted(self.statuses.items()))
-        print(f"beside: {self.calls} calls beside {beside}, {self.slowed} of them slowed, {len(self.wrong)} wrong ({counts})")
+        calls = f"{self.calls} calls beside {beside}, {self.slowed} of them slowed"
+        print(f"beside: {calls}, {len(self.wrong)} wrong ({counts})")
         for text in self.wrong[:5]:
             print(f"beside:   {text}")
         return len(self.wrong)
@@ -175,7 +252,8 @@ def feed(pipe, ends):
 
 def beside_receive(calls):
     receiver = subprocess.Popen(
-        [PROGRAM, SHELF, "receive", "--input", "frames"], stdin=subprocess.PIPE, stdout=subprocess.PIPE, stderr=subprocess.PIPE)
+        [PROGRAM, SHELF, "receive", "--input", "frames"],
+        stdin=subprocess.PIPE, stdout=subprocess.PIPE, stderr=subprocess.PIPE)
     ends = threading.Event()
     feeder = threading.Thread(target=feed, args=(receiver.stdin, ends))
     drain = threading.Thread(target=receiver.stdout.read)
@@ -207,8 +285,13 @@ def beside_changes(calls):
         discards += 1
         if discards % 3 == 0:
             kept = random.randrange(count)
+            with readers.lock:
+                readers.copied.append(kept)
             done = run("repack", str(kept), "8")
             repacks += done.returncode == 0
+            if done.returncode != 0:
+                with readers.lock:
+                    readers.copied.pop()
             if done.returncode not in (0, 13):
                 readers.bad(f"repack {kept} ended with {done.returncode}: {done.stderr.decode().strip()}")
     readers.end()

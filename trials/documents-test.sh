@@ -1,6 +1,7 @@
 #!/bin/sh
-# Whether `documents.sh` finds what it looks for: a copy of all files is right, and the same copy with one planted fault is not, for each of some
-# faults. It says what wasn't found, and ends with 1 then. Usage: trials/documents-test.sh. Needs python3; without it nothing is tried.
+# Whether `documents.sh` finds what it looks for: a copy of all files is right, and the same copy with one planted fault
+# is not, for each of some faults. It says what wasn't found, and ends with 1 then. Usage: trials/documents-test.sh.
+# Needs python3; without it nothing is tried.
 top=$(cd "$(dirname "$0")/.." && pwd)
 command -v python3 > /dev/null || { echo "trials/documents-test.sh: python3 is missing, so nothing was tried"; exit 77; }
 scratch=$(mktemp -d) || exit 1
@@ -28,7 +29,7 @@ planted README.md "\`docs/no_""such_page.md\`" "is no file here"
 planted README.md "[a page](docs/no_""such_page.md)" "leads nowhere"
 planted README.md "[a part](docs/CI.md#no-""such-part)" "has no heading for the link"
 planted README.md "The first run proves 1 crates." "the crates of the program are"
-planted docs/ARCHITECTURE.md "| | \`lr_bits\` | bits |" "lr_bench lr_bits"
+planted docs/ARCHITECTURE.md "| | \`lr_bits\` | bits |" "lritdemod lr_bits"
 planted crates.txt "lr_""nowhere: lr_bits" "lr_""nowhere, not"
 planted crates/lr_bits/src/lib.rt "pub fn bare() {}" "a public function without a doc comment"
 planted crates/lr_lock/specs/Thresholds.antt "six""teen : â„•; six""teen = 163""96" "163""96: write WINDOW_END"
@@ -37,9 +38,6 @@ planted crates/lr_lock/src/sizes.rt "fn planted(n: usize) requires { n + 7""7 â‰
 planted trials/bare_numbers_kept.txt "lr_gf/src/lib.rt | 9""9 | -" "has no bare 9""9 any more"
 planted docs/DEFINITIONS.md "| \`crates/lr_gf/specs/Systems.antt\` | - | |" "lists crates/lr_gf/specs/Systems.antt, which doesn't belong"
 planted crates/lr_gf/specs/Dual.antt "use Rattle.lr_gf.specs.Systems.{Solves}" "lacks crates/lr_gf/specs/Systems.antt"
-planted docs/INDEX.md "| \`field\` | another line | | | |" "docs/INDEX.md: has"
-planted crates/lr_gf/src/lib.rt "/// Bare.
-pub fn bare() {}" "docs/INDEX.md: lacks"
 planted README.md "$(printf '%0121d' 0)" "more than 120 columns"
 
 # changed FILE SCRIPT SAID: with this change by sed, documents.sh fails and says this
@@ -55,22 +53,20 @@ changed() {
 changed lritstation 's/^  --workers W  /  --workers X  /' "lritstation: the help gives decode"
 changed lritstation 's/^  repack N BLOCK  /  recode N BLOCK  /' "lritstation: the help has the commands"
 changed packaging/words.sh 's/ | trial)/)/' "packaging/words.sh: the commands that may write are"
+changed tools/gomtasil/embedded.py 's/, "trial"}/}/' "tools/gomtasil/embedded.py: the commands that may write are"
+changed pyproject.toml 's/^version = .*/version = "0"/' "pyproject.toml: the version is"
 changed docs/DEFINITIONS.md 's/ rests on [0-9]* definitions/ rests on 1 definitions/' "has to have the line: By name"
-changed CHANGELOG.md 's/The [0-9]* tests stand/The 1 tests stand/' "CHANGELOG.md: the tests are"
-changed CHANGELOG.md 's/^- [0-9]* edits must fail/- 1 edits must fail/' "CHANGELOG.md: the edits are"
 
 # blessed NAME LABELS SCRIPT: where `index.py` is changed by this script of sed, it makes a page with other labels of
-# this call and finds no fault in it, and the second count says which are right: these, which were read in the sources
+# this call, and the second count says which are right: these, which were read in the sources
 blessed() {
-    cp "$scratch/trials/index.py" "$scratch/kept" && cp "$scratch/docs/INDEX.md" "$scratch/page" || exit 1
-    sed -i "$3" "$scratch/trials/index.py" || exit 1
-    python3 "$scratch/trials/index.py" --write || exit 1
-    if sh "$scratch/trials/documents.sh" > "$scratch/said" || ! grep -q "^trials/index.py: .* 0 faults" "$scratch/said" ||
+    cp "$scratch/trials/index.py" "$scratch/kept" && sed -i "$3" "$scratch/trials/index.py" || exit 1
+    if sh "$scratch/trials/documents.sh" > "$scratch/said" ||
         ! grep -qF "\`$1\` has the clauses $2, not" "$scratch/said"; then
         echo "trials/documents-test.sh: a page with other clauses of $1 was blessed: $(cat "$scratch/said")"
         exit 1
     fi
-    cp "$scratch/kept" "$scratch/trials/index.py" && cp "$scratch/page" "$scratch/docs/INDEX.md" || exit 1
+    cp "$scratch/kept" "$scratch/trials/index.py" || exit 1
     faults=$((faults + 1))
 }
 

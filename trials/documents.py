@@ -10,7 +10,7 @@ top = sys.argv[1]
 os.chdir(top)
 faults = []
 
-DOCUMENTS = ["README.md", "CHANGELOG.md", "CONTRIBUTING.md", *sorted(glob.glob("docs/*.md")), "trials/README.md", "bench/README.md"]
+DOCUMENTS = ["README.md", "CHANGELOG.md", "CONTRIBUTING.md", "SECURITY.md", *sorted(glob.glob("docs/*.md")), "trials/README.md", "bench/README.md"]
 DOCUMENTS = [it for it in DOCUMENTS if os.path.exists(it)]
 # What stands in documents and in no source: programs of others, and words of systemd and of the toolchain.
 OTHERS = set(
@@ -18,7 +18,7 @@ OTHERS = set(
     tail head pv nc netcat systemctl enable now journalctl daemon reload install usr local bin cmp pnmsplit pnmtopng pnmfile netpbm
     libfec libaec aec valgrind Restart RestartPreventExitStatus RuntimeMaxSec ExecStart mkfifo tee losetup strace rattle kit 13f
     rt must fail plant fmt tidy check anew jiff_core jiff_fmt stage times incremental Clock Recovery Symbol Sync Costas Loop Complex
-    Real Float Char File Sink simd Lts Tie Proof lr_trials Display""".split()
+    Real Float Char File Sink simd Lts Tie Proof lr_trials Display rx_sdr usermod plugdev""".split()
 )
 
 
@@ -123,14 +123,23 @@ def look_at_help():
 
 
 def look_at_writers():
-    """The commands that the wrappers take for such as write are those of which the definition says so."""
+    """The commands that the wrappers and the module for Python take for writers are those of the definition."""
     text = text_of("crates/lr_words/specs/Shapes.antt")
     shapes = dict(re.findall(r'\(codes "(\w+)"\)\s+then Some \(?([\w ]+?)\)?\s*$', text, re.M))
     writing = set(re.findall(r"(?m)^can_write \(?([\w ]+?)\)? = true", text))
     wanted = {name for name, shape in shapes.items() if shape in writing}
     told = set(re.search(r"(?m)^    ([a-z |]+)\) return 0 ;;$", text_of("packaging/words.sh"))[1].split(" | "))
-    if told != wanted:
-        faults.append(f"packaging/words.sh: the commands that may write are {' '.join(sorted(wanted))}")
+    module = set(re.findall(r'"(\w+)"', re.search(r"(?m)^WRITERS = .*$", text_of("tools/gomtasil/embedded.py"))[0]))
+    for path, found in (("packaging/words.sh", told), ("tools/gomtasil/embedded.py", module)):
+        if found != wanted:
+            faults.append(f"{path}: the commands that may write are {' '.join(sorted(wanted))}")
+
+
+def look_at_version():
+    """What pip installs has the version of CHANGELOG's newest heading with a number."""
+    newest = re.search(r"(?m)^## ([0-9][0-9.]*) ", text_of("CHANGELOG.md"))[1]
+    if f'version = "{newest}"' not in text_of("pyproject.toml").splitlines():
+        faults.append(f"pyproject.toml: the version is {newest}")
 
 
 def crates():
@@ -164,10 +173,10 @@ def look_at_layers(found):
                     faults.append(f"crates.txt: {name} stands before {library}, which it uses")
             above.add(name)
     told = []
-    for head, names in re.findall(r"(?m)^\| ([^|]*)\| (`lr_[^|]*) \|", text_of("docs/ARCHITECTURE.md")):
+    for head, names in re.findall(r"(?m)^\| ([^|]*)\| (`lr[^|]*) \|", text_of("docs/ARCHITECTURE.md")):
         if head.strip():
             told.append((head.strip(), []))
-        told[-1][1].extend(re.findall(r"`(lr_\w+)`", names))
+        told[-1][1].extend(re.findall(r"`(lr\w+)`", names))
     for true, page in itertools.zip_longest(layers(), told, fillvalue=("", [])):
         if true != page:
             faults.append(f"docs/ARCHITECTURE.md: the layer '{true[0]}' has {' '.join(true[1])}, not '{page[0]}': {' '.join(page[1])}")
@@ -181,30 +190,13 @@ def below(name, found, seen):
     return seen
 
 
-def tests():
-    """The tests of each crate that has some."""
-    for crate in sorted(glob.glob("crates/*/src")):
-        found = [it for path in glob.glob(f"{crate}/*.rt") for it in re.findall(r"(?m)^\s*#\[test\]$", text_of(path))]
-        if found:
-            yield found
-
-
-def newest(document):
-    """The text of a page, of CHANGELOG that of the newest version: what was counted for an older one stays."""
-    text = text_of(document)
-    return re.split(r"(?m)^## ", text)[1] if document == "CHANGELOG.md" else text
-
-
 def look_at_numbers(found):
     needed = len(below("lr_program", found, {"lr_program"}))
     for document, shape, true, what in (
         ("README.md", r"proves (\d+) crates", needed, "the crates of the program"),
         ("docs/CI.md", r"(\d+) crates of the program", needed, "the crates of the program"),
-        ("CHANGELOG.md", r"(\d+) edits must fail", len(glob.glob("crates/*/must-fail/*.edit")), "the edits"),
-        ("CHANGELOG.md", r"The (\d+) tests stand", sum(map(len, tests())), "the tests"),
-        ("CHANGELOG.md", r"tests stand in (\d+) crates", len(list(tests())), "the crates with tests"),
     ):
-        for told in re.findall(shape, newest(document)):
+        for told in re.findall(shape, text_of(document)):
             if int(told) != true:
                 faults.append(f"{document}: {what} are {true}, not {told}")
 
@@ -232,10 +224,9 @@ def look_at_columns():
                     if len(line) > 120 and max(map(len, line.split())) <= 100]
             faults.extend(f"{path}:{number}: more than 120 columns" for number in long)
     for document in DOCUMENTS:
-        if document != "docs/INDEX.md":
-            for number, line in enumerate(text_of(document).splitlines(), 1):
-                if len(line) > 120 and not line.startswith(("|", "    ", "<")):
-                    faults.append(f"{document}:{number}: more than 120 columns")
+        for number, line in enumerate(text_of(document).splitlines(), 1):
+            if len(line) > 120 and not line.startswith(("|", "    ", "<")):
+                faults.append(f"{document}:{number}: more than 120 columns")
 
 
 def anchors_of(document):
@@ -264,6 +255,7 @@ for document in DOCUMENTS:
 look_at_edits()
 look_at_help()
 look_at_writers()
+look_at_version()
 look_at_columns()
 look_at_layers(crates())
 look_at_numbers(crates())

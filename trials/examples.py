@@ -34,7 +34,8 @@ def listener(port):
 
 
 def publish(port, size):
-    """The publisher of nanomsg's PUB and SUB over TCP: each side says what it is, and a message has its length in 8 bytes before it."""
+    """The publisher of nanomsg's PUB and SUB over TCP: each side says what it is, and a message has its length in 8
+    bytes before it."""
     client, _ = listener(port).accept()
     client.sendall(b"\0SP\0" + big(2, 0x20) + bytes(2))
     assert client.recv(8, socket.MSG_WAITALL) == b"\0SP\0" + big(2, 0x21) + bytes(2)

@@ -80,7 +80,10 @@ end_small_disk() {
 }
 
 # what was restored and shelved over all calls, from the last lines in `received`
-sums() { awk '$1 == "symbols" { symbols += $2; restored += $6; files += $12 } END { print symbols, restored, files }' received; }
+sums() {
+    awk '$1 == "symbols" { symbols += $2; restored += $6; files += $12 }
+        END { print symbols, restored, files }' received
+}
 
 # A clock that goes on by the time that a call took: `date` says the seconds in `clock`, and moves it to the next
 # midnight.
@@ -126,7 +129,8 @@ try_weeks() {
     week=$(date -u +%G-%V)
     mkdir ./-weeks
     ends "roll.sh --weeks" 0 "$examples/roll.sh" --weeks -weeks 100000 1000 < symbols
-    is "the last line" "$(tail -n 1 out)" "symbols 1048576 frames 64 restored 64 lost 0 packets 452 files 63 left 0 stop end"
+    is "the last line" "$(tail -n 1 out)" \
+        "symbols 1048576 frames 64 restored 64 lost 0 packets 452 files 63 left 0 stop end"
     ends "roll.sh with a limit" 0 "$examples/roll.sh" --weeks -weeks 100000 1000 --workers 1 < symbols
     # (no shelf has so little room, so the words are wrong)
     rm ./-weeks/*
@@ -134,10 +138,11 @@ try_weeks() {
     says "roll.sh with a capacity of 10" "init of ./-weeks/"
     ends "roll.sh with no rate" 2 "$examples/roll.sh" --weeks -weeks 100000
     ends "roll.sh with small shelves" 0 "$examples/roll.sh" --weeks -weeks 20000 1000 < symbols
-    says "roll.sh with small shelves" ".shelf ended with 10: it is full"
+    says "roll.sh with small shelves" ".shelf exited with 10: it is full"
     [ "$(date -u +%G-%V)" = "$week" ] || return
     is "the shelves" "$(ls ./-weeks | tr '\n' ' ')" "$week-2.shelf $week.shelf "
-    is "the files of both" "$(for shelf in ./-weeks/*; do "$LRITSTATION" "$shelf" verify; done | grep -c ' ok$')" "$(grep -c '^shelved' out)"
+    is "the files of both" "$(for shelf in ./-weeks/*; do "$LRITSTATION" "$shelf" verify; done | grep -c ' ok$')" \
+        "$(grep -c '^shelved' out)"
 }
 
 # Where all nine shelves of a day are full, the rest of it is dropped, and the next day goes on; the same of frames, of
@@ -146,7 +151,7 @@ try_full_shelves() {
     mkdir full
     slow_clock
     PATH=$PWD/clock:$PATH ends "roll.sh with shelves of no room" 0 "$examples/roll.sh" full 60 20 < stream
-    says "roll.sh with shelves of no room" "all shelves of this name are full"
+    says "roll.sh with shelves of no room" "all shelves of this day or week are full"
     # (the clock goes on by a day each time that it is asked, and no file ends in the first seconds)
     is "the first days" "$(ls full | cut -c 1-10 | sort | uniq -c | awk '{ print $1, $2 }' | head -n 3 | tr '\n' ' ')" \
         "1 2024-10-04 9 2024-10-05 9 2024-10-07 "
@@ -154,7 +159,8 @@ try_full_shelves() {
     slow_clock
     "$LRITSTATION" - make 1 256 0 --output frames > made-frames || fail "make"
     PATH=$PWD/clock:$PATH ends "roll.sh of frames" 0 "$examples/roll.sh" full 1000000 20 --input frames < made-frames
-    is "the rounds" "$(sed -n 's/^symbols \([0-9]*\) .* stop /\1 /p' out | tr '\n' ' ')" "1000 limit 86400 limit 86400 limit 54552 end "
+    is "the rounds" "$(sed -n 's/^symbols \([0-9]*\) .* stop /\1 /p' out | tr '\n' ' ')" \
+        "1000 limit 86400 limit 86400 limit 54552 end "
 }
 
 # A disk that is full ends nothing: once there is room the reception goes on.
@@ -173,7 +179,8 @@ try_full_disk() {
     exec 9>&-
     wait "$rolling" || fail "roll.sh after a full disk ended with $?: $(cat err)"
     is "the last line after that" "$(tail -n 1 received | grep -c ' stop end$')" 1
-    [ "$("$LRITSTATION" small/*.shelf list | tail -n 1 | cut -d ' ' -f 2)" -gt 63 ] || fail "what came after there was room"
+    [ "$("$LRITSTATION" small/*.shelf list | tail -n 1 | cut -d ' ' -f 2)" -gt 63 ] ||
+        fail "what came after there was room"
     end_small_disk
 }
 
@@ -192,7 +199,8 @@ try_bundle() {
     "$examples/bundle.sh" -first second > bundle || fail "bundle.sh"
     python3 -c 'import sys
 first, second = (open(name, "rb").read() for name in ("-first", "second"))
-sys.stdout.buffer.write(bytes([2]) + len(first).to_bytes(8, "big") + first + len(second).to_bytes(8, "big") + second)' > wanted
+parts = b"".join(len(it).to_bytes(8, "big") + it for it in (first, second))
+sys.stdout.buffer.write(bytes([2]) + parts)' > wanted
     cmp -s bundle wanted || fail "bundle.sh wrote another bundle"
     "$LRITSTATION" many.shelf init 65536 > init.log || fail "init"
     "$LRITSTATION" many.shelf downlinks < bundle > receipts || fail "downlinks"
@@ -228,7 +236,8 @@ take_published() {
     rm -f published.shelf
     "$LRITSTATION" published.shelf init 100000 > init.log
     sleep 0.5
-    timeout 5 nanocat --sub --connect "tcp://127.0.0.1:$port" --raw | "$LRITSTATION" published.shelf receive "$@" > received
+    timeout 5 nanocat --sub --connect "tcp://127.0.0.1:$port" --raw |
+        "$LRITSTATION" published.shelf receive "$@" > received
     is "the files of a publisher" "$(tail -n 1 received | sed 's/.* files \([0-9]*\) .*/\1/')" 63
 }
 
@@ -237,23 +246,28 @@ try_station() {
     mkdir stationed
     export RATE=1000000 CAPACITY=1000000 OPTIONS=
     SOURCE="cat symbols" ends "station.sh" 0 "$examples/station.sh" stationed
-    is "the last line" "$(tail -n 1 out)" "symbols 1048576 frames 64 restored 64 lost 0 packets 452 files 63 left 0 stop end"
+    is "the last line" "$(tail -n 1 out)" \
+        "symbols 1048576 frames 64 restored 64 lost 0 packets 452 files 63 left 0 stop end"
     says "station.sh" "minute 0 frames 64 lost 0 corrected 64.00"
     is "the quality" "$(cat stationed/quality)" "minute 0 frames 64 lost 0 corrected 64.00"
     is "the minutes" "$(cut -d ' ' -f 2- stationed/minutes)" "64 0 4096"
     # (a source that can't be run is an error, and one that ends so is told)
     SOURCE="no-such-program -x" ends "station.sh with a source that isn't there" 2 "$examples/station.sh" stationed
-    says "station.sh with a source that isn't there" "SOURCE ended with 127: no-such-program -x"
+    says "station.sh with a source that isn't there" "SOURCE exited with 127: no-such-program -x"
     SOURCE="cat symbols; exit 3" ends "station.sh with a source that ends with 3" 0 "$examples/station.sh" stationed
-    says "station.sh with a source that ends with 3" "SOURCE ended with 3"
-    SOURCE="cat symbols; sleep 60" OPTIONS="--line x" ends "station.sh with wrong options" 2 "$examples/station.sh" stationed
+    says "station.sh with a source that ends with 3" "SOURCE exited with 3"
+    SOURCE="cat symbols; exec sleep $long" OPTIONS="--line x" \
+        ends "station.sh with wrong options" 2 "$examples/station.sh" stationed
     # (a source that stays beside a reception that ends is ended)
     # (of tomorrow too, since midnight may pass meanwhile)
     rm -rf stationed && mkdir stationed
     for day in today tomorrow; do
-        echo "no shelf stands here, and these are more than twenty bytes" > "stationed/$(date -u -d $day +%Y-%m-%d).shelf"
+        echo "no shelf stands here, and these are more than twenty bytes" \
+            > "stationed/$(date -u -d $day +%Y-%m-%d).shelf"
     done
-    SOURCE="cat symbols; exec sleep $long" ends "station.sh whose shelf is none" 6 "$examples/station.sh" stationed
+    SOURCE="cat symbols" ends "station.sh whose shelf is none" 0 "$examples/station.sh" stationed
+    says "station.sh whose shelf is none" "exited with 6"
+    is "the shelf that is taken then" "$(find stationed -name '*-2.shelf' | wc -l)" 1
     is "sources that are left" "$(pgrep -f "sleep $long")" ""
     # (the quality side can't write, and the reception has every frame)
     rm -rf stationed && mkdir -p stationed/quality stationed/minutes
@@ -261,7 +275,8 @@ try_station() {
     is "the frames all the same" "$(sed -n 's/^symbols .* restored \([0-9]*\) .*/\1/p' out)" 256
     printf '#!/bin/sh\nexec true\n' > no-tool && chmod +x no-tool
     rm -rf stationed && mkdir stationed
-    SOURCE="cat stream" GOMTASIL=$PWD/no-tool ends "station.sh whose quality side ends" 0 "$examples/station.sh" stationed
+    SOURCE="cat stream" GOMTASIL=$PWD/no-tool \
+        ends "station.sh whose quality side ends" 0 "$examples/station.sh" stationed
     is "the frames without a quality side" "$(sed -n 's/^symbols .* restored \([0-9]*\) .*/\1/p' out)" 256
     unset RATE CAPACITY OPTIONS
     ends "station.sh with no settings" 2 "$examples/station.sh" stationed
@@ -291,7 +306,8 @@ signalled() {
     wanted=$2
     shift 2
     rm -rf "$scratch/tmp" && mkdir "$scratch/tmp"
-    is "the status of ${1##*/} after $name" "$(TMPDIR=$scratch/tmp $python signal "$name" "$scratch/tmp" "$@" 2> err)" "$wanted"
+    is "the status of ${1##*/} after $name" \
+        "$(TMPDIR=$scratch/tmp $python signal "$name" "$scratch/tmp" "$@" 2> err)" "$wanted"
     is "what ${1##*/} leaves after $name" "$(ls -A "$scratch/tmp")" ""
 }
 
@@ -343,7 +359,7 @@ unbuilt() {
     if [ ! -d unbuilt ]; then
         mkdir -p unbuilt/crates/lr_program/src unbuilt/packaging unbuilt/docs
         cp "$top/lritstation" "$top/CHANGELOG.md" "$top/HANDLES" unbuilt/
-        cp "$top/packaging/proving.sh" "$top/packaging/words.sh" unbuilt/packaging/
+        cp "$top/packaging/proving.sh" "$top/packaging/version.sh" "$top/packaging/words.sh" unbuilt/packaging/
         cp "$top/docs/FORMATS.md" unbuilt/docs/
         echo "lr_program:" > unbuilt/crates.txt
     fi
@@ -365,7 +381,7 @@ try_wrapper() {
         "--unproved - nothing" "--help nothing" "--help list,"; do
         # shellcheck disable=SC2086 # (they are several words)
         ends "the wrapper with $words" 2 "$wrapper" $words
-        is "what it says" "$(cat out err)" "station: usage: SHELF COMMAND [WORDS]"
+        is "what it says" "$(sed '/^lritstation: ./d' out err)" "station: usage: SHELF COMMAND [WORDS]"
         is "the file that it leaves" "$(ls -d shelf list 2> /dev/null)" ""
     done
     for word in $writers $others; do
@@ -387,7 +403,8 @@ try_wrapper() {
     PATH=$before
 }
 
-# Without a commit to be had the version is that of the newest heading, and that more came since; else the commit's minute.
+# Without a commit to be had the version is that of the newest heading, and that more came since; else the commit's
+# minute.
 try_version() {
     number=$(sed -n 's/^## \([0-9.]*\) .*/\1/p' "$top/CHANGELOG.md" | head -n 1)
     since=
@@ -399,7 +416,8 @@ try_version() {
     is "the version of a release" "$(cat out)" "Gomtasil $number"
     lacks git "no version of a commit was tried" && return
     sed "s/^## $number .*/## Next\\n\\n&/" "$top/CHANGELOG.md" > unbuilt/CHANGELOG.md
-    git init -q unbuilt && git -C unbuilt -c user.name=a -c user.email=a@b commit -q --allow-empty --date=@86400 -m a || fail "git"
+    git init -q unbuilt || fail "git"
+    git -C unbuilt -c user.name=a -c user.email=a@b commit -q --allow-empty --date=@86400 -m a || fail "git"
     minute=$(date -u -d "@$(git -C unbuilt log -1 --format=%ct)" +%Y%m%d.%H%M)
     ends "--version of a commit" 0 "$wrapper" --version
     is "the version of a commit" "$(cat out)" "Gomtasil $number+$minute"
@@ -417,7 +435,7 @@ try_help() {
     done
     ends "--help decode" 0 "$wrapper" --help decode
     is "what decode takes" "$(head -n 2 out | xargs echo)" "usage: lritstation SHELF decode [--input symbols|blocks] \
-[--line nrz-l|nrz-m] [--g2 inverted|plain] [--symbols N] [--workers W]"
+[--line nrz-l|nrz-m] [--g2 inverted|plain] [--passes N] [--symbols N] [--workers W]"
 }
 
 # fake_kit: an rt and a kit whose programs are scripts that say for which processor they are
@@ -457,11 +475,14 @@ loader() {
 
 # runs WHAT WANTED: which program the wrapper starts, as the very process, with its words and its status
 runs() {
-    "$wrapper" - list 'a  b' > out 2> err &
+    "$wrapper" - list 'a  b' > out 2> err
+    is "the status of the program where $1" "$?" 7
+    is "what is run where $1" "$(cut -d ' ' -f 1,3- out)" "$2 - list a  b"
+    "$wrapper" - frames > same 2> same.err &
     started=$!
     wait "$started"
-    is "the status of the program where $1" "$?" 7
-    is "what is run where $1" "$(cat out)" "$2 $started - list a  b"
+    is "the status of the same process where $1" "$?" 7
+    is "what runs as it where $1" "$(cat same)" "$2 $started - frames"
 }
 
 # has_for SHELF COMMAND WANTED: what the program has for the shelf, as the scripts of fake_kit tell their words
@@ -538,6 +559,73 @@ end_second() {
 # The statuses in OPERATING's table after which the unit starts again, or stays down.
 statuses() { sed -n "s/^| \([0-9]*\) |.*| $1 |\$/\1/p" "$top/docs/OPERATING.md" | sort -n | tr '\n' ' '; }
 
+# packaged: the wrapper of the package beside the program, as packaging/debian.sh has both
+packaged() {
+    mkdir -p package/bin package/lib/gomtasil package/share/gomtasil
+    cp "$top/packaging/lritstation" package/bin/ && cp "$top/packaging/words.sh" package/share/gomtasil/
+    cp "$LRITSTATION" package/lib/gomtasil/lritstation-v2 && cp "$LRITSTATION" package/lib/gomtasil/lritstation-v3
+    for page in help commands; do
+        SOURCE_DATE_EPOCH=1 python3 "$top/packaging/pages.py" $page "$top" 0 > package/share/gomtasil/$page
+    done
+}
+
+# explained WORDS STATUS LINE: the wrapper ends with this status, and says this after the program's own line
+explained() {
+    # shellcheck disable=SC2086 # (they are several words)
+    package/bin/lritstation $1 > out 2> err < /dev/null
+    is "the status of $1" "$?" "$2"
+    is "what is said of $1" "$(sed 1d err)" "lritstation: $3"
+}
+
+# What is wrong with the words of a call, and drawn words: status, output and the program's line are the same with the
+# wrapper and without it, but for files that it doesn't make.
+try_words() {
+    packaged
+    "$LRITSTATION" my.shelf trial 1 8 0 > out || fail "trial"
+    cp my.shelf broken.shelf
+    printf '\377\377\377\377' | dd of=broken.shelf bs=1 seek=28 conv=notrunc 2> /dev/null
+    explained "my.shelf receive --rate 5" 2 "receive: unknown option --rate"
+    explained "my.shelf receive --line x" 2 'receive: --line must be nrz-l or nrz-m, not "x"'
+    explained "my.shelf receive --workers 65" 2 'receive: --workers must be a number from 1 to 64, not "65"'
+    explained "my.shelf lists" 2 'no command "lists"; the shelf comes before the command'
+    explained "my.shelf repack 1 9" 2 'repack: BLOCK must be 8, 16, 32 or 64, not "9"'
+    explained "my.shelf show" 2 "show needs N"
+    last=$(($("$LRITSTATION" my.shelf list | tail -n 1 | cut -d ' ' -f 2) - 1))
+    explained "my.shelf show 99999" 7 "no file 99999: the shelf has files 0 to $last"
+    explained "nosuch.shelf list" 6 "nosuch.shelf: no such file"
+    explained "new.shelf receive" 6 "new.shelf is not a shelf yet: create it with init CAPACITY"
+    explained "broken.shelf list" 6 \
+        "broken.shelf is corrupt at byte 19: \`gomtasil salvage\` copies the files before and after it"
+    explained "my.shelf list 5" 2 'list: unexpected "5"'
+    explained "my.shelf init 5000" 11 "my.shelf exists already"
+    python3 - package/bin/lritstation "$LRITSTATION" << 'DRAW' || fail "drawn words"
+import random, shutil, subprocess, sys
+
+drawn = random.Random(5)
+commands = "init receive downlinks list show extract export render assemble verify discard repack transmit".split()
+commands += ["decode", "frames", "packets", "make", "trial", "shows", "--help="]
+words = "0 1 5 64 65 16 17 -1 1x 99999999999999999999 184467440737095516151 007 nrz-m plain --line --line=nrz-m".split()
+words += "--g2 --symbols --symbols=5 --workers=2 --workers --mend=3 --mend --input=frames --output --rate".split()
+words += "x  a\tb --".split(" ")
+kinds = {}
+for draw in range(300):
+    call = [drawn.choice(commands), *(drawn.choice(words) for _ in range(drawn.randrange(5)))]
+    found = []
+    for program in sys.argv[1:]:
+        shutil.copy("my.shelf", "drawn.shelf")
+        done = subprocess.run([program, "drawn.shelf", *call], input=b"", capture_output=True)
+        lines = done.stderr.split(b"\n")
+        found.append((done.returncode, done.stdout, [it for it in lines if not it.startswith(b"lritstation: ")]))
+        if program == sys.argv[1] and done.returncode == 2 and not any(it.startswith(b"lritstation: ") for it in lines):
+            sys.exit(f"nothing says what is wrong with {call}")
+    if found[0] != found[1]:
+        sys.exit(f"{call}: {found}")
+    kinds[found[0][0]] = kinds.get(found[0][0], 0) + 1
+print(kinds)
+DRAW
+    cases=$((cases + 300))
+}
+
 try_units() {
     for unit in "$examples/"*.service; do
         name=${unit##*/}
@@ -553,21 +641,33 @@ try_units() {
             cases=$((cases + 1))
         done
     done
+    for unit in receive contents page pictures web; do
+        is "who is told of gomtasil-$unit.service" "$(grep '^OnFailure=' "$examples/gomtasil-$unit.service")" \
+            OnFailure=gomtasil-watch.service
+    done
+    is "when the checks begin after a start" "$(grep '^OnBootSec=' "$examples/gomtasil-watch.timer")" OnBootSec=1min
+    # shellcheck source=/dev/null
+    is "what is said of a kill" "$(. "$examples/common.sh" && reason 137)" \
+        "it was killed (SIGKILL): perhaps the system ran out of memory"
     is "lines of the page where one side ends the other" "$(grep -c '| tee [^-]' "$top/docs/OPERATING.md")" 0
     is "the statuses after which the unit starts again" "$(statuses "starts again")" "0 1 3 5 9 "
-    for unit in station.service station@.service; do
-        is "the statuses after which $unit stays down" "$(sed -n 's/^RestartPreventExitStatus=//p' "$examples/$unit") " "$(statuses "stays down")"
-        is "the limit of starts of $unit" "$(grep -c '^StartLimitIntervalSec=0$' "$examples/$unit")$(grep -c StartLimitBurst "$examples/$unit")" 10
-        is "what $unit restarts" "$(sed -n 's/^Restart=//p' "$examples/$unit")" always
-        is "whether $unit waits for the clock" "$(grep -c '^After=.*time-sync.target' "$examples/$unit")" 1
-    done
-    is "the units that can be enabled" "$(cd "$examples" && grep -l '^\[Install\]' ./*.service ./*.timer | sort | tr '\n' ' ')" \
-        "./contents.service ./page.timer ./station.service ./station@.service ./watch.timer "
+    unit=gomtasil-receive.service
+    is "the statuses after which $unit stays down" \
+        "$(sed -n 's/^RestartPreventExitStatus=//p' "$examples/$unit") " "$(statuses "stays down")"
+    is "the limit of starts of $unit" "$(grep '^StartLimit' "$examples/$unit")" StartLimitIntervalSec=0
+    is "what $unit restarts" "$(sed -n 's/^Restart=//p' "$examples/$unit")" always
+    is "whether $unit waits for the clock" "$(grep -c '^After=.*time-sync.target' "$examples/$unit")" 1
+    enabled=$(cd "$examples" && grep -l '^\[Install\]' gomtasil-* 2> /dev/null | sed 's/^gomtasil-//' | sort)
+    is "the units that can be enabled" "$(echo "$enabled" | tr '\n' ' ')" \
+        "alarm.path contents.service page.timer pictures.timer receive.service watch.timer web.service "
     lacks systemd-analyze "the units were only read" && return
-    mkdir units && cp "$examples/"*.service "$examples/"*.timer units/
+    mkdir units && cp -R "$examples"/gomtasil-* units/
     verify_units
-    for unit in station.service station@.service station-failed@.service watch.service contents.service page.service; do
-        score=$(systemd-analyze security --offline=yes "$PWD/units/$unit" 2> /dev/null | sed -n 's/.*exposure level for .*: \([0-9.]*\) .*/\1/p')
+    # (what delivers alarms may use programs with rights of their own)
+    for unit in receive contents page pictures web watch failed@; do
+        unit=gomtasil-$unit.service
+        score=$(systemd-analyze security --offline=yes "$PWD/units/$unit" 2> /dev/null |
+            sed -n 's/.*exposure level for .*: \([0-9.]*\) .*/\1/p')
         [ "$(echo "${score:-10}" | tr -d .)" -lt 40 ] || fail "the exposure of $unit is $score"
         cases=$((cases + 1))
     done
@@ -575,8 +675,10 @@ try_units() {
 
 # The scripts and the program stand in a folder of their own here.
 verify_units() {
-    sed -i "s,/usr/local/share/gomtasil,$examples,; s,/usr/local/bin/gomtasil,$top/tools/bin/gomtasil,; s/^User=.*//" units/*
-    systemd-analyze verify "$PWD/units/"*.service "$PWD/units/"*.timer > verified 2>&1
+    find units -type f -exec sed -i "s,/usr/local/share/gomtasil,$examples,
+        s,/usr/local/bin/gomtasil,$top/tools/bin/gomtasil,
+        s/^User=.*//" {} +
+    systemd-analyze verify "$PWD/units/"*.service "$PWD/units/"*.timer "$PWD/units/"*.path > verified 2>&1
     is "what systemd-analyze says" "$(grep units/ verified)" ""
 }
 
@@ -585,10 +687,11 @@ try_form() {
     ends "shellcheck" 0 shellcheck --external-sources "$top/lritstation" "$top/packaging/lritstation" \
         "$top/packaging/debian.sh" "$top/packaging/archive.sh" "$top/packaging/arm64.sh" "$top/packaging/library.sh" \
         "$top/packaging/web.sh" "$top/trials/arm64.sh" "$top/trials/library.sh" "$top/trials/web.sh" \
-        "$examples/bundle.sh" "$examples/cadu.sh" "$examples/roll.sh" "$examples/station.sh"
+        "$top/packaging/upgrade.sh" "$examples/bundle.sh" "$examples/cadu.sh" "$examples/roll.sh" "$examples/station.sh"
 }
 
-parts="days weeks full_shelves full_disk bundle ways_in station station_of_frames signals wrapper processors units form"
+parts="days weeks full_shelves full_disk bundle ways_in station station_of_frames signals wrapper words processors
+    units form"
 # shellcheck disable=SC2086 # (they are several)
 [ $# -gt 0 ] || set -- $parts
 for part; do

@@ -1,10 +1,10 @@
 #!/bin/sh
 # A disk that fills up, and an output that fails. `receive` runs with limits on the size of the shelf's file, from a few
-# blocks on, and on a small file system in memory where one can be mounted (root); each run must end with 4, or with 0 once
-# all fits, each file whose line was printed must be there, and the shelf must go on once there is room. `receive`, `list`,
-# `show`, `verify` and `extract` run with a full and a closed output and with a reader that leaves, and must end with 5, with the
-# shelf's bytes unchanged, or of `receive` with the acknowledged files on it.
-# It takes some ten seconds, or as the disk syncs. What needs a tool that is missing is skipped, with a word.
+# blocks on, and on a small file system in memory where one can be mounted (root); each run must end with 4, or with 0
+# once all fits, each file whose line was printed must be there, and the shelf must go on once there is room. `receive`,
+# `list`, `show`, `verify` and `extract` run with a full and a closed output and with a reader that leaves, and must end
+# with 5, with the shelf's bytes unchanged, or of `receive` with the acknowledged files on it. It takes some ten
+# seconds, or as the disk syncs. What needs a tool that is missing is skipped, with a word.
 # Usage: trials/full.sh. Needs rt.
 top=$(cd "$(dirname "$0")/.." && pwd)
 scratch=$(mktemp -d) || exit 1

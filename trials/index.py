@@ -1,29 +1,27 @@
 #!/usr/bin/env python3
-"""Compares docs/INDEX.md with the sources, from which it is made.
+"""Makes the index of the libraries from their sources.
 
-Usage: trials/index.py [--write]
+Usage: trials/index.py PAGE
 
 The page has a line for each public function of the libraries: its name, the first sentence of its doc comment, the
 labels of its clauses, the definitions that these cite, and the edits that change its body and must be refused. A
 function is public where the crate's `lib.rt` hands out it, its type or its trait. An edit that changes another
-function, a constant or a type has a row after the table of its crate. `index_test.py` counts again.
-
-It prints a line for each difference, and ends with status 1 where there is one; `--write` writes the page anew.
+function, a constant or a type has a row after the table of its crate. `index_test.py PAGE` counts again.
 """
+import argparse
 import glob
 import os
+import pathlib
 import re
-import sys
 
 TOP = os.path.dirname(os.path.dirname(os.path.abspath(__file__)))
-PAGE = "docs/INDEX.md"
 HEAD = """# Index
 
 Each public function of the libraries, by crate: what it does, the labels of its clauses, the definitions that they
 cite, and the edits under `must-fail/` that change its body and that the proof refuses. An edit of a private function, a
 constant or a type has a row after the table of its crate: what it changes, in which file, and the clauses of that. A
-method of an `impl` of a trait has the clauses of the trait's method too. `trials/index.py --write` makes this page from
-the sources. The gate compares the two, and `trials/index_test.py` counts clauses and edits once more, another way.
+method of an `impl` of a trait has the clauses of the trait's method too. `trials/index.py` made this page from the
+sources, and `trials/index_test.py` counts clauses and edits once more, another way.
 """
 
 FUNCTION = re.compile(r"^( *)(pub )?(?:pub\(\w+\) )?(?:const )?(?:unsafe )?(?:extern \S+ )?fn (\w+)")
@@ -244,22 +242,16 @@ def section_of(crate):
     return "\n".join(said)
 
 
-def main():
+def main() -> None:
+    parser = argparse.ArgumentParser(description="Makes the index of the libraries from their sources.")
+    parser.add_argument("page", type=pathlib.Path, metavar="PAGE", help="the file that is written")
+    path = parser.parse_args().page.absolute()
     os.chdir(TOP)
     page = HEAD + "\n".join(section_of(crate) for crate in crates()) + "\n"
-    if "--write" in sys.argv[1:]:
-        with open(PAGE, "w", encoding="utf-8") as it:
-            it.write(page)
-        return 0
-    kept = text_of(PAGE).splitlines() if os.path.exists(PAGE) else []
-    wanted = page.splitlines()
-    if kept == wanted:
-        print(f"trials/index.py: {sum(line.startswith('| `') for line in wanted)} rows, 0 faults")
-        return 0
-    for line in sorted(set(kept) ^ set(wanted)):
-        print(f"{PAGE}: {'lacks' if line in set(wanted) else 'has'} {line[:100]}")
-    print("trials/index.py: run it with --write")
-    return 1
+    path.parent.mkdir(parents=True, exist_ok=True)
+    path.write_text(page, encoding="utf-8")
+    print(f"trials/index.py: {page.count(chr(10) + '| `')} rows")
 
 
-sys.exit(main())
+if __name__ == "__main__":
+    main()

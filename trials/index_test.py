@@ -1,7 +1,7 @@
 #!/usr/bin/env python3
-"""Counts the clauses and edits of docs/INDEX.md once more, another way than `index.py`, which makes the page.
+"""Counts the clauses and edits of the index once more, another way than `index.py`, which makes the page.
 
-Usage: trials/index_test.py
+Usage: trials/index_test.py PAGE
 
 It goes over the whole text of each source file, character by character: comments and texts become spaces, and from each
 `fn` on it counts brackets up to the body or the semicolon, so it knows nothing of lines and indents. Then it asks that
@@ -13,8 +13,8 @@ It goes over the whole text of each source file, character by character: comment
 
 It shares no code with `index.py`. It says what isn't so, and ends with 1 then.
 """
+import argparse
 import collections
-import os
 import pathlib
 import re
 import sys
@@ -114,11 +114,11 @@ def names_in(cell):
     return re.findall(r"`([^`]*)`", cell)
 
 
-def page_of():
+def page_of(path):
     """The rows of the page by crate: of calls, and of edits of others."""
     crate, heads = "", []
     calls, edits = collections.defaultdict(list), collections.defaultdict(list)
-    for line in (TOP / "docs/INDEX.md").read_text(encoding="utf-8").splitlines():
+    for line in path.read_text(encoding="utf-8").splitlines():
         if line.startswith("## "):
             crate = line[3:]
         elif line.startswith(("| call |", "| edit |")):
@@ -172,8 +172,8 @@ def look_at_edits(crate, calls, edits, functions):
             yield f"{crate}: the edit `{edit}` doesn't change `{other}`"
 
 
-def main():
-    calls, edits = page_of()
+def main(page):
+    calls, edits = page_of(page)
     faults, labels = [], 0
     crates = [it.parent.parent.name for it in sorted(TOP.glob("crates/*/src/lib.rt"))]
     crates = [it for it in crates if not it.startswith("lr_trials_")]
@@ -187,12 +187,13 @@ def main():
         faults += look_at_edits(crate, calls[crate], edits[crate], functions)
         labels += sum(len(names_in(row["clauses"])) for row in calls[crate])
     for fault in faults:
-        print(f"docs/INDEX.md: {fault}")
+        print(f"{page}: {fault}")
     rows, others = (sum(map(len, it.values())) for it in (calls, edits))
     print(f"trials/index_test.py: {rows} calls with {labels} labels, {others} edits of others, {len(faults)} faults")
     return 1 if faults else 0
 
 
 if __name__ == "__main__":
-    os.chdir(TOP)
-    sys.exit(main())
+    parser = argparse.ArgumentParser(description="Counts the clauses and edits of the index once more.")
+    parser.add_argument("page", type=pathlib.Path, metavar="PAGE", help="the index, as index.py made it")
+    sys.exit(main(parser.parse_args().page))

@@ -1,11 +1,12 @@
 #!/bin/sh
 # The program over a real file: many small files are received, verified and extracted. Then rounds in which `receive` is
-# killed (SIGKILL) at a drawn moment: each file whose line was printed must be on the shelf, with its bytes. Then as many
-# rounds over one shelf, which goes on from each kill to the next. Then as many rounds in which `downlinks` of two recordings is killed:
-# the shelf has the first ones of the files of each, in their order.
-# A kill leaves what the system was handed, so this tries the order of the writes, and not what a disk keeps of them.
-# Usage: trials/kill.sh [ROUNDS [FRAMES]] (20 rounds of 4,000 frames, each with one file). It takes as long as the disk takes for
-# 4 syncs of each frame in each round: two minutes for 20 rounds of 600 frames, and some 15 by default. Needs rt and python3.
+# killed (SIGKILL) at a drawn moment: each file whose line was printed must be on the shelf, with its bytes. Then as
+# many rounds over one shelf, which goes on from each kill to the next. Then as many rounds in which `downlinks` of two
+# recordings is killed: the shelf has the first ones of the files of each, in their order. A kill leaves what the system
+# was handed, so this tries the order of the writes, and not what a disk keeps of them.
+# Usage: trials/kill.sh [ROUNDS [FRAMES]] (20 rounds of 4,000 frames, each with one file). It takes as long as the disk
+# takes for 4 syncs of each frame in each round: two minutes for 20 rounds of 600 frames, and some 15 by default. Needs
+# rt and python3.
 set -e
 top=$(cd "$(dirname "$0")/.." && pwd)
 rounds=${1:-20}
@@ -65,7 +66,8 @@ def verified():
     return len(lines) if good else None
 
 
-# whether some drawn ones of these files, and the last two, are extracted as they were sent; the first one has this number
+# whether some drawn ones of these files, and the last two, are extracted as they were sent; the first one has this
+# number
 def extracts(count, first=0):
     drawn = random.sample(range(count), min(20, count)) + list(range(count))[-2:]
     return all(run("extract", str(first + k), stdout=subprocess.PIPE).stdout == proper(k) for k in drawn)
@@ -108,7 +110,8 @@ passed = status == 0 and last == wanted and acknowledged() == list(range(frames)
 print("whole run: %s, %d files in %.2f s" % ("passed" if passed else "FAILED", frames, shortest))
 
 
-# A shelf on which a `receive` was killed has the acknowledged files and at most one more, and takes the next ones after them.
+# A shelf on which a `receive` was killed has the acknowledged files and at most one more, and takes the next ones after
+# them.
 def keeps_all(numbers):
     count = verified()
     if count is None or numbers != list(range(len(numbers))) or count - len(numbers) not in (0, 1) or not extracts(count):
@@ -129,8 +132,8 @@ for number in range(rounds):
 print("%d of %d rounds passed, in %d of them the program was killed" % (good, rounds, killed))
 
 
-# One shelf, on which every `receive` is killed: each adds the acknowledged files and at most one more, and the next one goes on
-# after them. The bases are the numbers at which the rounds began.
+# One shelf, on which every `receive` is killed: each adds the acknowledged files and at most one more, and the next one
+# goes on after them. The bases are the numbers at which the rounds began.
 make_shelf()
 bases = [0]
 on = ended = 0

@@ -45,11 +45,11 @@ programs() {
     ways="$ways $name-loads $name-holds"
 }
 
-# loads FOLDER NM: the library of this folder that is loaded shows its two calls alone, and needs nothing of the C
+# loads FOLDER NM: the library of this folder that is loaded shows its four calls alone, and needs nothing of the C
 # library that came after glibc 2.34
 loads() {
     shown=$("$2" -D --defined-only "$1/liblritstation.so.1" | awk '{ print $3 }' | xargs echo)
-    [ "$shown" = "lr_run lr_run_over" ] || fail "$1/liblritstation.so.1 shows $shown"
+    [ "$shown" = "lr_run lr_run_over lr_version lr_words" ] || fail "$1/liblritstation.so.1 shows $shown"
     newest=$({ echo GLIBC_2.34 && grep -ao 'GLIBC_2\.[0-9]*' "$1/liblritstation.so.1"; } | sort -V | tail -n 1)
     [ "$newest" = GLIBC_2.34 ] || fail "$1/liblritstation.so.1 needs $newest"
 }
@@ -139,6 +139,8 @@ same none transmit 0 6 8 --line nrz-m --g2 plain
 "$LRITSTATION" shelf transmit 0 6 8 --line nrz-m --g2 plain > recording || fail "transmit"
 same recording decode --line nrz-m --g2 plain
 same recording receive --line nrz-m --g2 plain
+python3 "$top/trials/redecode.py" --noise -1.6 < recording > noisy || fail "redecode.py"
+same noisy decode --line nrz-m --g2 plain --passes 4
 head -c 3000000 recording > part
 same part receive --line nrz-m --g2 plain
 same none make 1 64 0

@@ -1,7 +1,8 @@
 #!/bin/sh
-# Decodes drawn lines that another coder coded (aec, of Debian's libaec-tools; without it nothing is tried), and compares the
-# samples. The lines are drawn by reference/lines.py, whose own codings aec decodes as well. Then codes a drawn line, and
-# compares the bytes with those of reference/coder.py: aec has to decode them to the samples, and to have no fewer of its own.
+# Decodes drawn lines that another coder coded (aec, of Debian's libaec-tools; without it nothing is tried), and
+# compares the samples. The lines are drawn by reference/lines.py, whose own codings aec decodes as well. Then codes a
+# drawn line, and compares the bytes with those of reference/coder.py: aec has to decode them to the samples, and to
+# have no fewer of its own.
 # Usage: trials/lines.sh. Needs rt and python3.
 set -e
 top=$(cd "$(dirname "$0")/.." && pwd)

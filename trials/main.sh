@@ -44,7 +44,9 @@ ends 2; prints ''; says 'station: usage: SHELF COMMAND [WORDS]\n'
 ends 2 shelf; says 'station: usage: SHELF COMMAND [WORDS]\n'
 ends 2 shelf nothing; says 'station: usage: SHELF COMMAND [WORDS]\n'
 if command -v python3 > /dev/null; then
-    station=$station python3 -c 'import os; os.execv(os.environ["station"], [b"lritstation", b"shelf", b"\xff"])' 2> err; status=$?
+    station=$station python3 -c \
+        'import os; os.execv(os.environ["station"], [b"lritstation", b"shelf", b"\xff"])' 2> err
+    status=$?
     [ "$status" = 2 ] || fail "a word that isn't UTF-8 ended with $status"
     says 'station: usage: SHELF COMMAND [WORDS]\n'
 else
@@ -59,7 +61,8 @@ ends 0 shelf verify; prints ''
 "$station" - make 1 64 0 > stream || fail "make"
 cp stream in
 ends 0 shelf receive
-[ "$(tail -1 out)" = "symbols 1048576 frames 64 restored 64 lost 0 packets 452 files 63 left 0 stop end" ] || fail "receive"
+[ "$(tail -1 out)" = "symbols 1048576 frames 64 restored 64 lost 0 packets 452 files 63 left 0 stop end" ] ||
+    fail "receive"
 : > in
 ends 0 shelf verify
 [ "$(wc -l < out)" = 63 ] || fail "verify has $(wc -l < out) lines"
@@ -100,7 +103,8 @@ else
 fi
 "$station" shelf verify < in >&- 2> err; status=$?
 [ "$status" = 5 ] || fail "a closed output ended with $status"
-(trap '' XFSZ; ulimit -f 1; "$station" limited init 65536 > out 2> err && "$station" limited receive < stream > out 2> err)
+(trap '' XFSZ; ulimit -f 1
+    "$station" limited init 65536 > out 2> err && "$station" limited receive < stream > out 2> err)
 status=$?
 [ "$status" = 4 ] || fail "a file that may not grow ended with $status"
 says 'station: disk failed\n'

@@ -1,8 +1,8 @@
 #!/bin/sh
-# A long run of noise at constant memory: `receive` reads this many random symbols, in which some markers are found by chance
-# and their frames are lost. The resident memory of the process is read each second; from the fifth second on it must not grow
-# by more than 64 KiB. The last line must say that all symbols were read and that no frame was restored, and the shelf must
-# stay empty.
+# A long run of noise at constant memory: `receive` reads this many random symbols, in which some markers are found by
+# chance and their frames are lost. The resident memory of the process is read each second; from the fifth second on it
+# must not grow by more than 64 KiB. The last line must say that all symbols were read and that no frame was restored,
+# and the shelf must stay empty.
 # Usage: trials/noise.sh [SYMBOLS] (86,400,000,000, which are 24 hours at a million symbols a second). It takes some ten
 # seconds for each thousand million symbols, or as long as /dev/urandom takes for them. Needs rt, and Linux for /proc.
 top=$(cd "$(dirname "$0")/.." && pwd)

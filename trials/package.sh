@@ -5,15 +5,15 @@
 # Then a fresh Debian system: the package is installed there, README's example runs as a user without rights, the shelf
 # is that of the built program, systemd takes the units, and after the removal nothing is left.
 # Usage: trials/package.sh [SUITE [ARCHITECTURE [TRIAL..]]], bookworm and amd64 by default. Each TRIAL is the name of
-# another trial with its words ('kill 6 300'): it runs in that system too, with the program that is installed there. Where
-# one of them tries nothing there, the status is 77. Needs dpkg-deb, git, python3, xz, and both built programs: that of
-# $LRITSTATION, or else of this folder, and the one beside it with -v3 after its name. Root, mmdebstrap and the network
-# for the system, and lintian, zsh, fish and man for some cases. It takes a minute. For arm64 it needs the program with
-# -arm64 after its name instead, and that this machine starts programs for arm64 by qemu (binfmt_misc with flag F, as
-# Debian's qemu-user-static sets it up). The system is one for arm64 then, for which mmdebstrap needs arch-test; where
-# there is none the status is 77. $SYSTEMS in the environment may name a folder that has fresh systems as ARCHITECTURE-SUITE
-# (amd64-bookworm), of which a copy is taken; $REFUSE_LIBRARY is for memory.sh. $LIBRARY may name the folder of the
-# library, as for packaging/debian.sh; with one, pkg-config and a C compiler are needed for a case.
+# another trial with its words ('kill 6 300'): it runs in that system too, with the program that is installed there.
+# Where one of them tries nothing there, the status is 77. Needs dpkg-deb, git, python3, xz, and both built programs:
+# that of $LRITSTATION, or else of this folder, and the one beside it with -v3 after its name. Root, mmdebstrap and the
+# network for the system, and lintian, zsh, fish and man for some cases. It takes a minute. For arm64 it needs the
+# program with -arm64 after its name instead, and that this machine starts programs for arm64 by qemu (binfmt_misc with
+# flag F, as Debian's qemu-user-static sets it up). The system is one for arm64 then, for which mmdebstrap needs
+# arch-test; where there is none the status is 77. $SYSTEMS in the environment may name a folder that has fresh systems
+# as ARCHITECTURE-SUITE (amd64-bookworm), of which a copy is taken; $REFUSE_LIBRARY is for memory.sh. $LIBRARY may name
+# the folder of the library, as for packaging/debian.sh; with one, pkg-config and a C compiler are needed for a case.
 # shellcheck disable=SC2012,SC2016 # (the names are those that are made here; a variable is one of an inner shell)
 top=$(cd "$(dirname "$0")/.." && pwd)
 suite=${1:-bookworm} architecture=${2:-amd64}
@@ -144,8 +144,8 @@ ends() {
     is "the status with $what" "$?" "$wanted"
 }
 
-# The paths of the installed help as those of a checkout.
-placed() { sed 's,share/doc/gomtasil/docs/,docs/,g; s,share/gomtasil/,examples/,g'; }
+# The words of a help, a line each, and its paths as those of a checkout. (A longer path moves the ends of the lines.)
+placed() { tr -s ' \n' '\n' | sed 's,share/doc/gomtasil/docs/,docs/,g; s,share/gomtasil/,examples/,g'; }
 
 # What is answered at once, and the true program: its statuses, a signal, and a link to it.
 try_installed() {
@@ -161,19 +161,22 @@ try_installed() {
     for words in "shelf" "shelf nothing" "list shelf" "nowhere/shelf nothing" "- list," "--help nothing"; do
         # shellcheck disable=SC2086 # (they are several words)
         ends "$words" 2 $words
-        is "what is said of $words" "$(cat ../out ../err)" "station: usage: SHELF COMMAND [WORDS]"
+        is "what is said of $words" "$(cat ../out ../err | sed '/^lritstation: ./d')" \
+            "station: usage: SHELF COMMAND [WORDS]"
+        is "lines on what is wrong with $words" "$(grep -c '^lritstation: ' ../err)" 1
     done
     ends "a folder that isn't there" 1 nowhere/shelf verify
     for word in list verify "show 0" render "transmit 0 1 0"; do
         # shellcheck disable=SC2086 # (they are several words)
         ends "$word of a shelf that isn't there" 6 ./missing.shelf $word
-        is "what is said of $word" "$(cat ../out ../err)" "station: not a shelf at 0"
+        is "what is said of $word" "$(cat ../out ../err)" "station: not a shelf at 0
+lritstation: ./missing.shelf: no such file"
     done
     is "the files that are there still" "$(ls -A)" ""
     ends "init of a shelf that isn't there" 0 ./missing.shelf init 1000
     is "the file that it makes" "$(ls -A)" missing.shelf
     for word in $("$station" --help | awk '/^  [a-z]/ { sub(/,.*/, "", $1); print $1 }'); do
-        is "the help of $word" "$("$station" --help "$word" | placed)" "$("$top/lritstation" --help "$word")"
+        is "the help of $word" "$("$station" --help "$word" | placed)" "$("$top/lritstation" --help "$word" | placed)"
     done
     ln -s "$station" ../link
     is "what a link to it does" "$(../link - trial 1 1 0 | cut -d ' ' -f 4)" 1
@@ -207,11 +210,11 @@ try_pages() {
     for heading in COMMANDS OPTIONS "EXIT STATUS" ENVIRONMENT FILES; do
         is "headings $heading of the manual page" "$(grep -c "^.SH \"$heading\"" plain)" 1
     done
-    for path in $(grep -oE '(^|[ `(])share/[A-Za-z0-9./_-]*[A-Za-z0-9/]|(^|[ `(])lib/[A-Za-z0-9./_-]*[A-Za-z0-9/]' plain | tr -d '`( '); do
+    for path in $(grep -oE '(^|[ `(])(share|lib)/[A-Za-z0-9./_-]*[A-Za-z0-9/]' plain | tr -d '`( '); do
         [ -e "$installed/$path" ] || fail "the manual page names $path, which isn't installed"
         cases=$((cases + 1))
     done
-    is "the statuses on the manual page" "$(sed -n '/^.SH "EXIT STATUS"/,/^.SH "THE/p' plain | grep -cx '[0-9]*')" \
+    is "the statuses on the manual page" "$(sed -n '/^.SH "EXIT STATUS"/,/^.SH "THE/p' plain | grep -c '^[0-9]\{1,\}@')" \
         "$(sed -n '/^## Statuses/,/^## The/p' "$top/docs/FORMATS.md" | grep -c '^| [0-9]')"
     is "paths of a checkout on the manual page" "$(grep -cE '(^|[^/])(examples|docs)/' page)" 0
     gzip -dc "$share/man/man1/gomtasil.1.gz" > tool-page || fail "the manual page of gomtasil"
@@ -223,15 +226,18 @@ try_pages() {
         done
     done
     for page in page tool-page; do
-        lacks man "the manual pages were only read" || is "what man says" "$(man --warnings -l $page 2>&1 > /dev/null)" ""
+        lacks man "the manual pages were only read" ||
+            is "what man says" "$(man --warnings -l $page 2>&1 > /dev/null)" ""
     done
     lacks bash "its completions were only read" ||
         is "what bash completes" "$(completed)" "receive render repack symbols blocks "
     for name in lritstation gomtasil; do
         lacks zsh "its completions were only read" || zsh -n "$share/zsh/site-functions/_$name" || fail "zsh"
-        lacks fish "its completions were only read" || fish -n "$share/fish/vendor_completions.d/$name.fish" || fail "fish"
+        lacks fish "its completions were only read" ||
+            fish -n "$share/fish/vendor_completions.d/$name.fish" || fail "fish"
     done
-    is "what the archive's tool says" "$("$installed/bin/gomtasil" --help | head -n 1)" "usage: gomtasil [-h] [--version] COMMAND ..."
+    is "what the archive's tool says" "$("$installed/bin/gomtasil" --help | head -n 1)" \
+        "usage: gomtasil [-h] [--version] COMMAND ..."
 }
 
 completed() {
@@ -245,23 +251,58 @@ completed() {
         done' bash "$share/bash-completion/completions/lritstation"
 }
 
+# The demodulator, where it was made: each option of its help stands on its manual page and in its completions.
+try_demodulator() {
+    share=$installed/share
+    if [ ! -x "$installed/bin/lritdemod" ]; then
+        echo "there is no lritdemod for $architecture: it wasn't tried (packaging/demodulator.sh makes it)"
+        return
+    fi
+    gzip -dc "$share/man/man1/lritdemod.1.gz" > demod-page || fail "the manual page of lritdemod"
+    sed 's/\\f[BRI]//g; s/\\-/-/g' demod-page > plain
+    sed -n 's/^ *\(-h, \)*--\([a-z-]*\) .*/\2/p' "$top/crates/lritdemod/stdout" > words
+    while read -r word; do
+        for file in plain "$share/bash-completion/completions/lritdemod" "$share/zsh/site-functions/_lritdemod" \
+            "$share/fish/vendor_completions.d/lritdemod.fish"; do
+            grep -q -e "$word" "$file" || fail "${file##*/} doesn't name $word"
+            cases=$((cases + 1))
+        done
+    done < words
+    lacks man "its manual page was only read" ||
+        is "what man says" "$(man --warnings -l demod-page 2>&1 > /dev/null)" ""
+    lacks zsh "its completions were only read" || zsh -n "$share/zsh/site-functions/_lritdemod" || fail "zsh"
+    lacks fish "its completions were only read" ||
+        fish -n "$share/fish/vendor_completions.d/lritdemod.fish" || fail "fish"
+    lacks bash "its completions were only read" || bash -n "$share/bash-completion/completions/lritdemod" || fail "bash"
+    [ "$architecture" != amd64 ] ||
+        is "its help" "$("$installed/bin/lritdemod" --help)" "$(cat "$top/crates/lritdemod/stdout")"
+}
+
 # The library, where it was made: a program in C finds it by its file for pkg-config.
 try_library() {
-    folder=$installed/lib/gomtasil/library
-    compiler=cc
-    [ "$architecture" = amd64 ] || compiler=aarch64-linux-gnu-gcc
-    if [ ! -d "$folder" ]; then
+    compiler=cc triplet=x86_64-linux-gnu
+    [ "$architecture" = amd64 ] || compiler=aarch64-linux-gnu-gcc triplet=aarch64-linux-gnu
+    if [ ! -f "$installed/lib/liblritstation.so.1" ]; then
         echo "there is no library for $architecture: it wasn't tried (packaging/library.sh makes it)"
         return
     fi
-    is "the files of the library" "$(cd "$folder" && echo *)" \
-        "liblritstation.a liblritstation.so liblritstation.so.1 lritstation.h lritstation.pc"
+    for package in first/liblritstation*.deb; do
+        dpkg-deb --extract "$package" unpacked || fail "$package"
+    done
+    try_development "$installed" lib
+    try_development "$PWD/unpacked/usr" "lib/$triplet"
+}
+
+# try_development PREFIX LIBRARIES: a program in C with what stands below
+try_development() {
+    is "the files of the library in $1" "$(cd "$1" && echo include/* "$2"/liblrit* "$2"/pkgconfig/*)" \
+        "include/lritstation.h $2/liblritstation.a $2/liblritstation.so $2/liblritstation.so.1 $2/pkgconfig/lritstation.pc"
     lacks pkg-config "the library was only listed" && return
-    lacks $compiler "the library was only listed" && return
-    flags=$(PKG_CONFIG_PATH=$folder pkg-config --cflags --libs lritstation) || fail "pkg-config"
+    lacks "$compiler" "the library was only listed" && return
+    flags=$(PKG_CONFIG_PATH=$1/$2/pkgconfig pkg-config --cflags --libs lritstation) || fail "pkg-config"
     eval "$compiler '$top/trials/library.c' -o uses $flags" > said 2>&1 || fail "$compiler: $(cat said)"
     : > new.shelf
-    is "what a program with the library says" "$(LD_LIBRARY_PATH=$folder ./uses bytes new.shelf - init 1000)" \
+    is "what a program with the library says" "$(LD_LIBRARY_PATH=$1/$2 ./uses bytes new.shelf - init 1000)" \
         "shelf capacity 1000"
 }
 
@@ -349,7 +390,7 @@ try_system() {
         return
     fi
     make_root "$@" || return
-    cp first/*.deb root/gomtasil.deb
+    cp first/gomtasil_*.deb root/gomtasil.deb
     files > before
     apt install /gomtasil.deb
     mkdir -m 777 root/example
@@ -359,7 +400,8 @@ try_system() {
     "$LRITSTATION" my.shelf init 1000000 > out || fail "init"
     "$LRITSTATION" my.shelf receive --line nrz-m --g2 plain < root/example/recording > out || fail "receive"
     same my.shelf root/example/my.shelf
-    is "the page and the pictures" "$(ls root/example/page/index.html root/example/earth.pgm root/example/pictures/*.png | wc -l)" 3
+    is "the page and the pictures" \
+        "$(cd root/example && ls page/index.html earth.pgm pictures/*.png | wc -l)" 3
     for file in root/usr/share/doc/gomtasil/docs/GLOSSARY.md root/usr/share/doc/gomtasil/CONTRIBUTING.md; do
         [ -f "$file" ] || fail "README names $file"
         cases=$((cases + 1))
@@ -368,9 +410,14 @@ try_system() {
     is "the version of the tool there" "$(chroot root gomtasil --version)" "Gomtasil $version"
     rm -rf root/example root/tmp/said
     line='from gomtasil import embedded; print(embedded.run(["init", "1000"])[:3])'
-    [ ! -d "$installed/lib/gomtasil/library" ] ||
+    if [ -f "$installed/lib/liblritstation.so.1" ]; then
+        for package in liblritstation1 liblritstation-dev; do
+            cp first/${package}_*.deb "root/$package.deb" && apt install "/$package.deb" && rm "root/$package.deb"
+        done
         is "what the library says in Python there" "$(chroot root env PYTHONPATH=/usr/share/gomtasil \
             PYTHONDONTWRITEBYTECODE=1 python3 -c "$line" 2>&1)" "(0, b'shelf capacity 1000\\n', '')"
+        apt purge liblritstation1
+    fi
     try_units
     try_others "$@"
     apt purge gomtasil
@@ -394,12 +441,13 @@ if [ "$architecture" = arm64 ]; then
     usual=arm64
 fi
 try_bytes
-version=$(dpkg-deb --field first/*.deb Version)
-for part in choice installed pages library lintian; do
+version=$(dpkg-deb --field first/gomtasil_*.deb Version)
+for part in choice installed pages demodulator library lintian; do
     try_$part
 done
 try_system "$@"
-echo "trials/package.sh: $cases cases${installed_there:+, with an installation in $suite}${skipped:+; tried nothing there:$skipped}"
+installed_there=${installed_there:+, with an installation in $suite}
+echo "trials/package.sh: $cases cases$installed_there${skipped:+; tried nothing there:$skipped}"
 # (for arm64, and with other trials, the installation is what it is about)
 [ "$architecture $#" = "amd64 0" ] || [ -n "$installed_there" ] || exit 77
 [ -z "$skipped" ] || exit 77

@@ -1,6 +1,7 @@
 #!/bin/sh
-# Pictures of many shapes, received, exported and put together: netpbm (Debian's package of that name; without it nothing is
-# tried) says of each PGM which size and which greatest pixel it has, and reads its pixels, which are those that were sent.
+# Pictures of many shapes, received, exported and put together: netpbm (Debian's package of that name; without it
+# nothing is tried) says of each PGM which size and which greatest pixel it has, and reads its pixels, which are those
+# that were sent.
 # Usage: trials/pictures.sh. Needs rt and python3.
 top=$(cd "$(dirname "$0")/.." && pwd)
 for tool in pnmfile pamtable pnmsplit; do

@@ -2,7 +2,7 @@
 """The sending half of a radio link in GNU Radio: symbols become BPSK in baseband and go through a channel with noise.
 
 Usage: radio.py SYMBOLS FORM: reads a signed byte a symbol, and writes to standard output complex samples, four a symbol, in the form
-f32 or u8 of `examples/receiver.py`.
+f32 or u8 of `lritdemod`.
 """
 import sys
 

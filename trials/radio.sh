@@ -1,7 +1,8 @@
 #!/bin/sh
 # The files of a test stream are sent by `transmit` under each line code, led through a noisy channel and received again
-# by GNU Radio (Debian's package of that name; without it nothing is tried), with examples/receiver.py. `receive` of the
-# soft symbols gives each file with its bytes. Under one line code the samples also come as unsigned bytes.
+# by `lritdemod`, and by a flow graph of GNU Radio (Debian's package of that name; without it nothing is tried),
+# bench/demod/gnuradio_usual.py. `receive` of the soft symbols gives each file with its bytes. Under one line code the
+# samples also come as unsigned bytes.
 # Usage: trials/radio.sh. Needs rt and python3.
 top=$(cd "$(dirname "$0")/.." && pwd)
 for python in python3 /usr/bin/python3 none; do
@@ -14,6 +15,9 @@ if [ -z "${LRITSTATION-}" ]; then
     "$top/lritstation" - frames < /dev/null > "$scratch/build.log" 2>&1 || { cat "$scratch/build.log"; exit 1; }
     LRITSTATION=$top/crates/lr_program/out/lr_program
 fi
+if [ -z "${LRITDEMOD-}" ]; then
+    LRITDEMOD=$("$top/packaging/demodulator.sh" 2> "$scratch/build.log") || { cat "$scratch/build.log"; exit 1; }
+fi
 station=$LRITSTATION
 cd "$scratch" || exit 1
 
@@ -24,8 +28,17 @@ send() {
     shift
     "$station" sent.shelf transmit 0 63 0 "$@" > sent || exit 1
     "$python" "$top/trials/radio.py" sent "$form" > samples 2> radio.log || { cat radio.log; exit 1; }
-    "$python" "$top/examples/receiver.py" --rate 4000000 --symbols 1000000 --form "$form" < samples > soft 2> radio.log ||
-        { cat radio.log; exit 1; }
+    for receiver in lritdemod graph; do
+        if [ "$receiver" = graph ]; then
+            "$python" "$top/bench/demod/gnuradio_usual.py" --rate 4000000 --symbols 1000000 --form "$form"
+        else
+            "$LRITDEMOD" --rate 4000000 --symbols 1000000 --format "$form"
+        fi < samples > soft 2> radio.log || { cat radio.log; exit 1; }
+        compare "$@"
+    done
+}
+# compare OPTIONS: receives the soft symbols, and compares the files
+compare() {
     rm -f soft.shelf
     "$station" soft.shelf init 200000 > lines || exit 1
     "$station" soft.shelf receive "$@" < soft >> lines || exit 1

@@ -1,9 +1,9 @@
 #!/bin/sh
-# A shelf that may only be read: a file of another user, of mode 444, and a file system that is mounted for reading alone. Each command that
-# only reads answers there what it answers where the shelf may be written. Each that writes ends with 1 and prints nothing, and so does any
-# over a missing shelf in a folder that may not be written.
-# Usage: trials/read-only.sh. Needs rt, and root with setpriv for the other user, and mkfs.ext4 and a loop device for the file system; what is
-# missing is skipped, with a word. LRITSTATION names another program to try.
+# A shelf that may only be read: a file of another user, of mode 444, and a file system that is mounted for reading
+# alone. Each command that only reads answers there what it answers where the shelf may be written. Each that writes
+# ends with 1 and prints nothing, and so does any over a missing shelf in a folder that may not be written.
+# Usage: trials/read-only.sh. Needs rt, and root with setpriv for the other user, and mkfs.ext4 and a loop device for
+# the file system; what is missing is skipped, with a word. LRITSTATION names another program to try.
 top=$(cd "$(dirname "$0")/.." && pwd)
 [ "$(id -u)" = 0 ] && command -v setpriv > /dev/null || { echo "trials/read-only.sh: this needs root and setpriv, so nothing was tried"; exit 77; }
 scratch=$(mktemp -d) || exit 1
@@ -23,7 +23,8 @@ READERS="list verify show_0 extract_0 export_0 export_3 show_99 assemble_0_9_100
 WRITERS="receive discard_0 repack_0_8 init_1000000"
 tried=0
 
-# answers COMMAND FILE..: what the rest of the line, a way to run a program, makes of the command on this shelf, and its status
+# answers COMMAND FILE..: what the rest of the line, a way to run a program, makes of the command on this shelf, and its
+# status
 answers() {
     words=$(echo "$1" | tr _ ' ')
     file=$2

@@ -1,9 +1,9 @@
 #!/bin/sh
 # SatDump reads what `transmit` writes. The files of a test stream are sent with 16 wrong bytes in each word, with
-# `--line nrz-m --g2 plain` to its pipeline goes_hrit and with `--g2 plain` to goes_lrit. Each frame that should be sent (by
-# reference/uplink.py) is among its frames, byte for byte; each text file that it writes equals what `extract` writes, and each
-# picture what `export` writes, pixel by pixel. Last, goes_lrit shows a picture
-# that `repack` coded anew as `export` writes it.
+# `--line nrz-m --g2 plain` to its pipeline goes_hrit and with `--g2 plain` to goes_lrit. Each frame that should be sent
+# (by reference/uplink.py) is among its frames, byte for byte; each text file that it writes equals what `extract`
+# writes, and each picture what `export` writes, pixel by pixel. Last, goes_lrit shows a picture that `repack` coded
+# anew as `export` writes it.
 # Usage: trials/satdump.sh ROOT. ROOT is a folder with a Debian system that has SatDump, as
 #   mmdebstrap --variant=apt --include=satdump trixie ROOT
 # makes it; chroot enters it, so this runs as root. Without a ROOT nothing is tried. Needs rt and python3.
@@ -47,7 +47,8 @@ send() {
 send goes_hrit --line nrz-m --g2 plain
 send goes_lrit --g2 plain
 
-# A picture coded anew. SatDump reads coded lines where NOAA's own record says that they are there, so the file that `repack` gets has one.
+# A picture coded anew. SatDump reads coded lines where NOAA's own record says that they are there, so the file that
+# `repack` gets has one.
 python3 "$top/trials/satdump.py" frames > frames || exit 1
 "$station" other.shelf init 100000 || exit 1
 "$station" other.shelf receive --input frames < frames || exit 1

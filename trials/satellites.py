@@ -1,6 +1,7 @@
 """What `satpy.sh` draws and compares. Usage: satellites.py draw FOLDER > FRAMES, which keeps the pixels in the
-folder; satellites.py compare FOLDER FILES, of the files that came; satellites.py placed FILES TIFF. Files and frames
-are made by the maker of `gomtasil sample`, and ELEKTRO's prologue by satpy's own types."""
+folder; satellites.py compare FOLDER FILES, of the files that came; satellites.py placed FILES TIFF; satellites.py
+readers FILES TIFF, a GeoTIFF of GOES's image. Files and frames are made by the maker of `gomtasil sample`, and
+ELEKTRO's prologue by satpy's own types."""
 
 import datetime
 import glob
@@ -28,6 +29,7 @@ ELEKTRO_FACTOR = 13642337 * ELEKTRO_COLUMNS // 2784
 GOES_COLUMNS, GOES_LINES, GOES_SEGMENTS = 904, 226, 4
 ELEKTRO_NAME = "L-000-GOMS2_-GOMS2_4_____-{}-{}-201811010000-__"
 DEGREES = 77.8  # the longitude of ELEKTRO-L N2
+GOES_LONGITUDE = -75.2
 
 
 # ---- drawing
@@ -130,7 +132,7 @@ def goes(folder):
         name = f"OR_ABI-L2-CMIPF-M6C13_G16_s20203011340173_e20203011349493_c20203011349577_{number}.lrit"
         records = [
             sample.structure(8, GOES_COLUMNS, GOES_LINES),
-            sample.navigation("geos(-75.2)", 3283000, 3283000, GOES_COLUMNS // 2, GOES_COLUMNS // 2),
+            sample.navigation(f"geos({GOES_LONGITUDE})", 3283000, 3283000, GOES_COLUMNS // 2, GOES_COLUMNS // 2),
             xrit.record(
                 3, b"$HALFTONE:=8\r\n_NAME:=toa_brightness_temperature\r\n_UNIT:=K\r\n255:=173.15\r\n0:=330.0\r\n"
             ),
@@ -259,6 +261,29 @@ def placed(files, tiff):
     same("geo, the upper edge within a pixel", abs(tie[4] - top) <= scale[1] * 1.001, True)
 
 
+def readers(files, tiff):
+    """Which files satpy finds by their names, and that it reads an image of GOES from its GeoTIFF."""
+    from satpy import Scene, find_files_and_readers
+
+    found = find_files_and_readers(base_dir=files, missing_ok=True)
+    for kind, names, wanted in (
+        ("Himawari", "IMG_DK01B14*", ["ahi_hrit"]),
+        ("ELEKTRO", "L-000-GOMS2*", ["electrol_hrit"]),
+        ("GOES", "OR_ABI*", []),
+    ):
+        paths = set(glob.glob(os.path.join(files, names)))
+        readers_of = sorted(reader for reader, taken in found.items() if paths & set(taken))
+        same(f"{kind}, the readers that satpy finds", len(paths) > 0 and readers_of == wanted, True)
+    scene = Scene(filenames=[tiff], reader="generic_image")
+    scene.load(["image"])
+    area = scene["image"].attrs["area"]
+    placed_so = area.crs.to_dict()["proj"] == "geos" and area.width == GOES_COLUMNS
+    same("GOES by its GeoTIFF, the projection", placed_so, True)
+    longitude, latitude = area.get_lonlat(area.height // 2, area.width // 2)
+    near = abs(longitude - GOES_LONGITUDE) < 0.2 and abs(latitude) < 0.2
+    same("GOES by its GeoTIFF, the middle lies below the satellite", near, True)
+
+
 def tags_of(path, wanted):
     """The numbers of a tag of a TIFF."""
     from PIL import Image
@@ -272,6 +297,8 @@ def main():
         draw(sys.argv[2])
     elif sys.argv[1] == "placed":
         placed(*sys.argv[2:])
+    elif sys.argv[1] == "readers":
+        readers(*sys.argv[2:])
     else:
         for part in (compare_himawari, compare_elektro, compare_goes):
             part(*sys.argv[2:])

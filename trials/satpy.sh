@@ -1,9 +1,11 @@
 #!/bin/sh
-# Sets of files as Himawari, ELEKTRO-L and GOES send them, drawn here, through the whole station and into satpy's own readers: as frames, sent
-# by `transmit` with wrong bytes in each word, received, taken off the shelf by `gomtasil follow`, and read: all pixels, platforms and times are those
-# that were drawn. Images that are coded without loss are made plain by `plain`, and `geo` places an image where satpy does.
-# Usage: trials/satpy.sh. Needs rt, or LRITSTATION set to the built program, and python3 with satpy (Debian's package python3-satpy);
-# without it nothing is tried.
+# Sets of files such as Himawari, ELEKTRO-L and GOES send, drawn here, go through the whole station and into satpy's own
+# readers: as frames, sent by `transmit` with wrong bytes in each word, received, taken off the shelf by `gomtasil
+# follow`, and read. All pixels, platforms and times are those that were drawn. Images that are coded without loss are
+# made plain by `plain`, and `geo` places an image where satpy does. Satpy finds the files of Himawari and ELEKTRO-L by
+# their names, and reads GOES's image from its GeoTIFF.
+# Usage: trials/satpy.sh. Needs rt, or LRITSTATION set to the built program, and python3 with satpy (Debian's package
+# python3-satpy); without it nothing is tried.
 top=$(cd "$(dirname "$0")/.." && pwd)
 python=
 for one in python3 /usr/bin/python3; do
@@ -38,7 +40,7 @@ tool follow received.shelf files --flat > log || fail "follow"
 echo "files: $count sent, $(wc -l < log | tr -d ' ') taken by follow"
 "$python" "$top/trials/satellites.py" compare drawn files || fail "satpy reads something else"
 
-# coded without loss, and plain again (Himawari's line times are of the kind that repack leaves out, so its files stay as they are)
+# coded without loss, and plain again (Himawari's line times are of the kind that repack leaves out, so its files stay)
 mkdir plain
 while read -r number name; do
     case $name in
@@ -59,3 +61,8 @@ echo "plain files of coded ones: the same in satpy"
 number=$(awk '$2 ~ /^IMG_DK01B14.*_001$/ { print $1 }' log)
 tool geo received.shelf "$number" placed.tif --alone || fail "geo"
 "$python" "$top/trials/satellites.py" placed files placed.tif || fail "geo places the image elsewhere"
+
+# which of these files satpy finds by their names, and GOES's image by its GeoTIFF
+number=$(awk '$2 ~ /^OR_ABI.*_0[.]lrit$/ { print $1 }' log)
+tool geo received.shelf "$number" earth.tif || fail "geo, of GOES"
+"$python" "$top/trials/satellites.py" readers files earth.tif || fail "satpy finds other files, or lays GOES elsewhere"

@@ -1,6 +1,6 @@
 #!/bin/sh
-# The program with standard input, output and error closed, over a real file: a stream that was closed fails, and the shelf
-# stays as it was. Usage: trials/streams.sh. Needs rt.
+# The program with standard input, output and error closed, over a real file: a stream that was closed fails, and the
+# shelf stays as it was. Usage: trials/streams.sh. Needs rt.
 set -e
 top=$(cd "$(dirname "$0")/.." && pwd)
 scratch=$(mktemp -d)

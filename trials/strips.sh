@@ -1,7 +1,8 @@
 #!/bin/sh
-# Who decodes the strips of `render`: the processor time of the program's first thread, over large coded images, where it works alone and where
-# four work. Where others decode strips, it takes a good deal less, since it keeps and writes what they decoded; a program that decodes all
-# strips on its first thread fails, also where it starts others. The pictures are the same. The coded lines are made by reference/lines.py.
+# Who decodes the strips of `render`: the processor time of the program's first thread, over large coded images, where
+# it works alone and where four work. Where others decode strips, it takes a good deal less, since it keeps and writes
+# what they decoded; a program that decodes all strips on its first thread fails, also where it starts others. The
+# pictures are the same. The coded lines are made by reference/lines.py.
 # Usage: trials/strips.sh. Needs rt, python3 and Linux, and two processors.
 top=$(cd "$(dirname "$0")/.." && pwd)
 [ -e /proc/self/task ] || { echo "there is no /proc/self/task: nothing was tried"; exit 77; }

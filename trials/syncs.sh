@@ -1,9 +1,11 @@
 #!/bin/sh
-# What the program asks of the system, as strace sees it. A made stream is received onto a shelf's file: each item is written and
-# synced, then its gate is opened by a write of one byte and synced, and only then its line is written. Then there is a run for each
-# call on the shelf's file, each read of the input and each write of the output, in which the system refuses that call: the program
-# asks for nothing more there, ends with its status, and has written no line of an item that wasn't synced.
-# Usage: trials/syncs.sh. Needs rt, python3 and strace. Where strace is missing or can't trace, that is said, and nothing is tried.
+# What the program asks of the system, as strace sees it. A made stream is received onto a shelf's file: each item is
+# written and synced, then its gate is opened by a write of one byte and synced, and only then its line is written. Then
+# there is a run for each call on the shelf's file, each read of the input and each write of the output, in which the
+# system refuses that call: the program asks for nothing more there, ends with its status, and has written no line of an
+# item that wasn't synced.
+# Usage: trials/syncs.sh. Needs rt, python3 and strace. Where strace is missing or can't trace, that is said, and
+# nothing is tried.
 set -e
 top=$(cd "$(dirname "$0")/.." && pwd)
 scratch=$(mktemp -d)
@@ -33,7 +35,8 @@ def fail(text):
     sys.exit(1)
 
 
-# A call of the system: its name, its number among those of that name, its arguments, its answer, and what it is made on.
+# A call of the system: its name, its number among those of that name, its arguments, its answer, and what it is made
+# on.
 class Call:
     def __init__(self, name, number, words, answer, places):
         self.name, self.number, self.words, self.answer = name, number, words, answer
@@ -76,7 +79,8 @@ def received(refused=None, words=("receive", "--input", "frames")):
     return run(["shelf", *words], refused)
 
 
-# Each refused call of a run of these words is the last one on its place, and the line of no item came before its last sync.
+# Each refused call of a run of these words is the last one on its place, and the line of no item came before its last
+# sync.
 def refuse_each(words):
     calls = received(None, words)[0]
     tried = [call for call in calls if call.place]

@@ -1,9 +1,9 @@
 #!/bin/sh
 # The tool of tools/: its tests, its types and its style.
 # Usage: trials/tools.sh [TEST..], with names as unittest has them (tests.test_page), all by default. Needs python3, and
-# rt where $LRITSTATION names no built program; Pillow, Jinja2, mypy, flake8, chromium, gdal, gmt and promtool for some
-# cases each. Of several Pythons the first one that has Pillow is taken. KILLS in the environment says how many kills at
-# drawn moments there are.
+# rt where $LRITSTATION and $LRITDEMOD name no built programs; Pillow, Jinja2, mypy, flake8, chromium, gdal, gmt and
+# promtool for some cases each. Of several Pythons the first one that has Pillow is taken. KILLS in the environment says
+# how many kills at drawn moments there are.
 top=$(cd "$(dirname "$0")/.." && pwd)
 python=
 for one in python3 /usr/bin/python3; do
@@ -18,12 +18,15 @@ if [ -z "${LRITSTATION-}" ]; then
     "$top/lritstation" - frames < /dev/null > "$scratch/build.log" 2>&1 || { cat "$scratch/build.log"; exit 1; }
     LRITSTATION=$top/crates/lr_program/out/lr_program
 fi
-export LRITSTATION PYTHONDONTWRITEBYTECODE=1
+if [ -z "${LRITDEMOD-}" ]; then
+    LRITDEMOD=$("$top/packaging/demodulator.sh" 2> "$scratch/build.log") || { cat "$scratch/build.log"; exit 1; }
+fi
+export LRITSTATION LRITDEMOD PYTHONDONTWRITEBYTECODE=1
 cd "$top/tools" || exit 1
 for tool in mypy flake8; do
     command -v $tool > /dev/null || { echo "$tool is missing: its part wasn't tried"; continue; }
     case $tool in
-    mypy) mypy --cache-dir "$scratch/mypy" gomtasil > "$scratch/said" ;;
+    mypy) mypy --cache-dir "$scratch/mypy" gomtasil tests > "$scratch/said" ;;
     flake8) flake8 gomtasil bin/gomtasil tests > "$scratch/said" ;;
     esac || { cat "$scratch/said"; exit 1; }
 done

@@ -1,7 +1,7 @@
 #!/bin/sh
-# No file waits for noise, nor for a stream that stalls. Symbols of the test stream come through a FIFO, and then nothing
-# more: the FIFO stays open, and the receiver waits. The files of all frames whose windows have come have to be printed and
-# to stand on the shelf meanwhile, with any number of workers.
+# No file waits for noise, nor for a stream that stalls. Symbols of the test stream come through a FIFO, and then
+# nothing more: the FIFO stays open, and the receiver waits. The files of all frames whose windows have come have to be
+# printed and to stand on the shelf meanwhile, with any number of workers.
 #
 # - After 64 frames come silence and random symbols: all 63 files.
 # - Frames 0 to 62 come and then 0, 11, 12 or 16,383 symbols more, all at once or in pieces of 16,384. From 12 on, which
@@ -40,8 +40,8 @@ in_pieces() {
     done
 }
 
-# waits LEAST MOST HOW FORM OPTIONS..: what stands in the file `given` comes in this way, and nothing more; this many files
-# at least and at most are there meanwhile
+# waits LEAST MOST HOW FORM OPTIONS..: what stands in the file `given` comes in this way, and nothing more; this many
+# files at least and at most are there meanwhile
 waits() {
     least=$1 most=$2 how=$3 form=$4
     shift 4

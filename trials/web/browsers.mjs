@@ -10,6 +10,7 @@ const PATIENCE = Number(process.env.PATIENCE ?? 1); // times as long is waited
 const STEP_MILLISECONDS = 50;
 const MARIONETTE_TRIES = 400 * PATIENCE;
 const KEYS = { Tab: '\uE004', Enter: '\uE007' }; // of Firefox
+const LANGUAGES = 'intl.accept_languages'; // of Firefox
 const SCHEME = 'layout.css.prefers-color-scheme.content-override'; // of Firefox
 const [DARK, LIGHT] = [0, 1];
 
@@ -69,7 +70,7 @@ export class Chromium extends Browser {
 
   static async start() {
     const it = new Chromium();
-    const plain = ['--headless', '--no-sandbox', '--disable-gpu', '--window-size=1100,900', 'about:blank'];
+    const plain = ['--headless', '--no-sandbox', '--disable-gpu', '--lang=en', '--window-size=1100,900', 'about:blank'];
     const words = ['--remote-debugging-pipe', `--user-data-dir=${it.profile}`, ...plain];
     it.process = spawn('chromium', words, { stdio: ['ignore', 'ignore', 'ignore', 'pipe', 'pipe'] });
     it.waiting = new Map();
@@ -149,11 +150,14 @@ export class Chromium extends Browser {
   }
 
   /** Shows the page as on a screen of this size. */
-  async screen({ width, height, isPhone = false, isDark = false }) {
+  async screen({ width, height, isPhone = false, isDark = false, language = 'en' }) {
     const metrics = { width, height, deviceScaleFactor: isPhone ? 2 : 1, mobile: isPhone };
     await this.send('Emulation.setDeviceMetricsOverride', metrics, this.session);
     const features = [{ name: 'prefers-color-scheme', value: isDark ? 'dark' : 'light' }];
     await this.send('Emulation.setEmulatedMedia', { features }, this.session);
+    const { userAgent } = await this.send('Browser.getVersion');
+    const spoken = { userAgent, acceptLanguage: language };
+    await this.send('Network.setUserAgentOverride', spoken, this.session);
   }
 
   async picture(file) {
@@ -182,6 +186,7 @@ export class Firefox extends Browser {
       'browser.download.always_ask_before_handling_new_types': false,
       'browser.helperApps.neverAsk.saveToDisk': 'image/png,application/zip,application/octet-stream,text/plain',
       'browser.shell.checkDefaultBrowser': false,
+      'intl.accept_languages': 'en',
       'datareporting.policy.dataSubmissionEnabled': false,
       'toolkit.telemetry.reportingpolicy.firstRun': false,
     };
@@ -278,10 +283,11 @@ export class Firefox extends Browser {
   }
 
   /** Shows the page in a window of this size. (It has a least width, which is that of a wide phone.) */
-  async screen({ width, height, isDark = false }) {
+  async screen({ width, height, isDark = false, language = 'en' }) {
     await this.send('WebDriver:SetWindowRect', { width, height });
     await this.send('Marionette:SetContext', { value: 'chrome' });
-    const script = `Services.prefs.setIntPref('${SCHEME}', ${isDark ? DARK : LIGHT});`;
+    const colours = `Services.prefs.setIntPref('${SCHEME}', ${isDark ? DARK : LIGHT});`;
+    const script = `${colours} Services.prefs.setStringPref('${LANGUAGES}', '${language}');`;
     await this.send('WebDriver:ExecuteScript', { script, args: [] });
     await this.send('Marionette:SetContext', { value: 'content' });
   }

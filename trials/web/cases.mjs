@@ -23,6 +23,7 @@ export function cases() {
   }
   for (const name of RECORDINGS) {
     add(['decode', ...CODE], 'none', name);
+    add(['decode', ...CODE, '--passes', '4'], 'none', name);
     add(['receive', ...CODE], 'empty.shelf', name);
     add(['receive', ...CODE, '--workers', '3', '--symbols', '3000000'], 'my.shelf', name);
   }

@@ -72,9 +72,12 @@ def recordings() -> None:
     damaged = bytearray((folder / "my.shelf").read_bytes())
     damaged[len(damaged) // 3] ^= 1
     write("damaged.shelf", bytes(damaged))
+    whole = (folder / "my.shelf").read_bytes()
+    write("torn.shelf", whole[: len(whole) * 2 // 3])
     write("cut", recording[1_000_003:2_200_000])
     write("part", run("-", "make", "1", "4", "0"))
     write("noise", random.Random(1).randbytes(2_000_000))
+    write("weak", noisy(recording[:4_000_000], 48, 1.6, 4))
     write("noisy0.7", noisy(recording[:4_000_000], 48, 0.7, 2))
     write("noisy1.0", noisy(recording[:2_000_000], 48, 1.0, 3))
     for number in range(DRAWN):
@@ -100,6 +103,17 @@ def forms() -> None:
     write("form.frames", frames)
     cadus = (MARKER + frames[at : at + FRAME_BYTES] + bytes(PARITY_BYTES) for at in range(0, len(frames), FRAME_BYTES))
     write("form.cadu", b"".join(cadus))
+
+
+def others() -> None:
+    """Files that are no recordings."""
+    write("other.jpeg", bytes.fromhex("ffd8ffe000104a464946") + bytes(100_000))
+    write("other.zip", made.zip_of(("readme.txt", b"no recording")))
+    write("other.pdf", b"%PDF-1.7\n" + bytes(100_000))
+    draw = random.Random(8)
+    form = (16).to_bytes(4, "little") + bytes((1, 0, 2, 0)) + (48_000).to_bytes(4, "little") + bytes(8)
+    samples = draw.randbytes(400_000)
+    write("other.wav", b"RIFF" + (400_036).to_bytes(4, "little") + b"WAVEfmt " + form + b"data" + bytes(4) + samples)
 
 
 def bomb() -> bytes:
@@ -159,5 +173,6 @@ def jpeg_strips() -> None:
 if __name__ == "__main__":
     recordings()
     forms()
+    others()
     hostile()
     jpeg_strips()

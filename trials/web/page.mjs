@@ -11,6 +11,7 @@ const [page, folder, shots, program, ...names] = process.argv.slice(2);
 const LONG_TIMES = Number(process.env.TIMES ?? 100); // how often the recording stands in the long one
 const MOST_MEMORY = 16 << 20; // of the receiver's module
 const CODE = ['--line', 'nrz-m', '--g2', 'plain'];
+const ALL = /^Done\. All 470 blocks of data \(frames\) were received, and they held 6 files\.$/;
 const FORMS = ['unsigned', 'bits', 'packed', 's16le', 's16be', 'f32le', 'f32be', 'frames', 'cadu'];
 const BRIDGE = new URL('../../packaging/web/live/bridge.py', import.meta.url).pathname;
 const place = (name) => path.join(folder, name);
@@ -25,6 +26,8 @@ function check(holds, what) {
 
 const state = (browser) => browser.evaluate("document.getElementById('state').textContent");
 const shownText = (browser, id) => browser.evaluate(`document.getElementById('${id}').textContent`);
+const displayOf = (browser, id) =>
+  browser.evaluate(`getComputedStyle(document.getElementById('${id}')).display`);
 const countOf = (browser, selector) => browser.evaluate(`document.querySelectorAll('${selector}').length`);
 
 /** Checks the words of the state, or of another element. */
@@ -70,15 +73,16 @@ const earth = () => {
 async function sample(browser) {
   await browser.click('#sample'); // 1
   await browser.until('document.body.dataset.settled');
-  await says(browser, /^All is read. 470 of 470 frames were restored, and 6 files came.$/);
+  await says(browser, ALL);
   await browser.click('#pictures button'); // 2: Save as PNG
   const { name, bytes } = await browser.saved(/\.png$/);
   check(name === '20261129T170020Z-SAMPLE_EARTH_20261129170020_0.1.png', name);
   check(pixelsOf(bytes).equals(earth()), "the saved picture is the program's");
   await browser.until("document.getElementById('quality').dataset.isWhole === 'true'");
-  await says(browser, /Of 470 frames 0 were lost \(0 %\). .*32\.0 bytes/, 'quality');
+  await says(browser, /Of 470 blocks of data \(frames\) 0 were lost \(0 %\)\. .*32\.0 wrong bytes/, 'quality');
   await says(browser, /SAMPLE BULLETIN/, 'texts');
   await says(browser, /nrz-m, g2 plain: 244 of 244/, 'tries');
+  check((await displayOf(browser, 'save-recording')) !== 'none', "the sample's recording can be saved");
   await browser.click('#save-recording');
   const recording = (await browser.saved(/\.soft$/)).bytes;
   check(recording.equals(fs.readFileSync(place('recording'))), "the sample's recording is README's");
@@ -87,9 +91,10 @@ async function sample(browser) {
 /** From a file that was chosen to a saved picture. */
 async function chosen(browser) {
   await given(browser, place('recording')); // 1 and 2: Choose a file, and the file
-  await says(browser, /^All is read. 470 of 470 frames were restored, and 6 files came.$/);
+  await says(browser, ALL);
   await browser.click('#pictures button'); // 3: Save as PNG
   check(pixelsOf((await browser.saved(/\.png$/)).bytes).equals(earth()), "the saved picture is the program's");
+  check((await displayOf(browser, 'save-recording')) === 'none', "a recording of one's own isn't offered as the sample");
 }
 
 /** Images that lack packets are filled in, and captioned so; without the setting they don't appear. */
@@ -107,7 +112,7 @@ async function lacking(browser) {
     await given(browser, place('lacking'));
     check((await countOf(browser, '#files tr')) === lines.length, `${lines.length} files, ${mend.join(' ')}`);
     const sum = fillers.reduce((all, it) => all + it, 0);
-    const words = mend.length ? `\\D${sum} of \\d+ packets were lost, and are filled in` : '^((?!filled in).)*$';
+    const words = mend.length ? `\\D${sum} of \\d+ packets were lost` : '^((?!were lost).)*$';
     await says(browser, new RegExp(words), 'pictures');
   }
   await browser.click('#pictures button');
@@ -133,10 +138,23 @@ async function shelf(browser) {
     check(one.equals(other) && one.length > 0, `file ${number} is the one that was sent`);
   }
   await given(browser, kept);
-  await says(browser, /^The shelf is open, and each file is whole.$/);
+  await says(browser, /^The shelf is open, and every file on it is intact\.$/);
   check((await countOf(browser, '#files tr')) === 6, 'six files are listed');
+  check((await displayOf(browser, 'save-recording')) === 'none', 'a shelf has no recording to save');
   await given(browser, place('damaged.shelf'));
-  await says(browser, /1 of its files are damaged/);
+  await says(browser, /One of its files is damaged; the list below marks it\./);
+  check((await countOf(browser, '#files tr.bad')) === 1, 'the damaged file is marked');
+  await says(browser, /damaged: its checksum is wrong/, 'files');
+  await given(browser, place('torn.shelf'));
+  await browser.until('document.body.dataset.settled');
+  await says(browser, /^This shelf breaks off, perhaps because it wasn't copied completely\. The \d files before that are shown\.$/);
+  const count = await countOf(browser, '#files tr');
+  check(count > 0 && (await state(browser)).includes(` ${count} files`), `${count} files of the torn shelf`);
+  fs.rmSync(browser.downloads, { recursive: true });
+  fs.mkdirSync(browser.downloads);
+  await browser.click('#save-shelf');
+  fs.writeFileSync(kept, (await browser.saved(/\.shelf$/)).bytes);
+  check(spawnSync(program, [kept, 'verify']).status === 0, 'what stands before the break is saved as a shelf');
 }
 
 /** All files as one zip, which another program reads. */
@@ -156,12 +174,53 @@ async function zip(browser) {
 async function forms(browser) {
   for (const form of FORMS) {
     await given(browser, place(`form.${form}`));
-    await says(browser, /^All is read/);
+    await says(browser, /^Done\./);
     check((await countOf(browser, '#files tr')) >= 1, `${form}: files came`);
   }
-  for (const name of ['noise', 'none']) {
+}
+
+const OTHERS = [
+  ['noise', /^Nothing that this receiver knows was found in the file\./],
+  ['none', /^The file is empty\.$/],
+  ['part', /^Done\./],
+  ['other.jpeg', /^This is a JPEG picture, not a recording\.$/],
+  ['other.pdf', /^This is a PDF document, not a recording\.$/],
+  ['other.wav', /^This seems to be a recording of the radio itself/],
+  ['weak', /^A signal is there \(signed bytes, nrz-m, g2 plain, 24\d frames\), but too weak: no frame could be restored\.$/],
+];
+
+/** What is said where nothing is found. */
+async function others(browser) {
+  for (const [name, words] of OTHERS) {
     await given(browser, place(name));
-    await says(browser, /Nothing that this receiver knows/);
+    await says(browser, words);
+    const isBad = await browser.evaluate("document.getElementById('state').className === 'bad'");
+    check(isBad === (name !== 'part'), `${name}: ${isBad}`);
+  }
+}
+
+const NOTHING = /^Nothing was found with these settings\. Set both to “detect automatically”\.$/;
+const SETTINGS = [
+  ['recording', '', 'nrz-m plain', ALL],
+  ['recording', 'signed', '', ALL],
+  ['recording', 'f32le', '', NOTHING],
+  ['recording', '', 'nrz-l inverted', NOTHING],
+  ['recording', 'frames', '', NOTHING],
+  ['recording', 'cadu', 'nrz-m plain', NOTHING],
+  ['form.cadu', 'frames', '', NOTHING],
+  ['form.cadu', '', 'nrz-m plain', /^Done\. The \d+ blocks of data \(frames\) of the recording held 6 files\.$/],
+  ['form.s16le', '', 'nrz-m plain', /^Done\./],
+  ['form.s16le', 's16le', '', /^Done\./],
+];
+
+/** What is set goes together with what is found. */
+async function settings(browser) {
+  for (const [name, form, code, words] of SETTINGS) {
+    for (const [id, value] of Object.entries({ form, code })) {
+      await browser.evaluate(`document.getElementById('${id}').value = '${value}'`);
+    }
+    await given(browser, place(name));
+    await says(browser, words);
   }
 }
 
@@ -171,10 +230,10 @@ async function hostile(browser) {
   check((await browser.evaluate('document.title')) === 'Weather satellite receiver', 'no script of a file ran');
   check((await countOf(browser, '#results img[src=x], #results script, #results b')) === 0, 'there is no markup');
   await says(browser, /<img src=x/, 'texts');
-  for (const words of [/too large when it is unpacked/, /too many files/, /can't be read/]) {
+  for (const words of [/zip is too large when it is unpacked/, /zip has too many files/, /zip can't be read/]) {
     await says(browser, words, 'files');
   }
-  await says(browser, /No picture can be had/, 'pictures');
+  await says(browser, /This image can't be shown here\./, 'pictures');
   await given(browser, place('segments.shelf'), 400);
   await says(browser, /1 × 65535[^m]*$/, 'pictures');
   check((await countOf(browser, '#files tr')) <= 200, 'the table begins with a part');
@@ -202,7 +261,7 @@ async function long(browser) {
   await given(browser, place('long'), 600);
   const seconds = ((Date.now() - start) / 1000).toFixed(0);
   const text = await state(browser);
-  check(new RegExp(`and ${6 * LONG_TIMES} files came`).test(text), text);
+  check(new RegExp(`held ${6 * LONG_TIMES} files`).test(text), text);
   const memory = Number(await browser.evaluate('document.body.dataset.memory'));
   check(memory > 0 && memory < MOST_MEMORY, `the module has ${memory} bytes`);
   await browser.evaluate('delete document.body.dataset.settled');
@@ -242,7 +301,7 @@ async function served(browser) {
     await opened(browser, `${base}/receiver.html`);
     await browser.click('#sample');
     await browser.until('document.body.dataset.settled');
-    await says(browser, /6 files came/);
+    await says(browser, ALL);
     for (const it of ASKING) {
       const line = `(async () => { try { await ${it}; return 'came'; } catch { return 'refused'; } })()`;
       check((await browser.evaluate(line)) === 'refused', `${it} came`);
@@ -276,7 +335,7 @@ function programsLive(recording) {
   const shelf = place('live.shelf');
   fs.rmSync(shelf, { force: true });
   spawnSync(program, [shelf, 'init', String(2 ** 40)]);
-  const done = spawnSync(program, [shelf, 'receive', ...CODE, '--mend', '64'], { input: recording });
+  const done = spawnSync(program, [shelf, 'receive', ...CODE, '--passes', '4', '--mend', '64'], { input: recording });
   return { shelf: fs.readFileSync(shelf), last: done.stdout.toString().trim().split('\n').at(-1) };
 }
 
@@ -353,10 +412,13 @@ async function commands(browser) {
   return `${answers.length} commands by lr_run and lr_live`;
 }
 
-/** What is seen on screens of each kind. */
+/** What is seen on screens of each kind, and in each language. */
 async function screens(browser) {
   const wide = { width: 1100, height: 1500 };
-  const kinds = { wide, phone: { width: 390, height: 844, isPhone: true }, dark: { ...wide, isDark: true } };
+  const languages = { german: 'de', spanish: 'es', french: 'fr' };
+  const others = Object.entries(languages).map(([name, language]) => [name, { ...wide, language }]);
+  const phone = { width: 390, height: 844, isPhone: true };
+  const kinds = { wide, phone, dark: { ...wide, isDark: true }, ...Object.fromEntries(others) };
   for (const [name, kind] of Object.entries(kinds)) {
     await browser.screen(kind);
     await opened(browser);
@@ -368,15 +430,17 @@ async function screens(browser) {
     const root = 'document.documentElement';
     const isDark = await browser.evaluate("matchMedia('(prefers-color-scheme: dark)').matches");
     check(isDark === Boolean(kind.isDark), `${name}: dark is ${isDark}`);
+    const language = await browser.evaluate('document.documentElement.lang');
+    check(language === (kind.language ?? 'en'), `${name}: the language is ${language}`);
     const overflow = await browser.evaluate(`${root}.scrollWidth - ${root}.clientWidth`);
     check(overflow <= 0, `${name}: the page is ${overflow} pixels too wide`);
   }
+  await browser.screen(wide);
 }
 
 /** By the keyboard alone; and in Chromium, what a screen reader gets. */
 async function keyboard(browser) {
-  await browser.key('Tab', 9); // past the link to the results
-  await browser.key('Tab', 9);
+  for (let step = 0; step < 3; step += 1) await browser.key('Tab', 9); // past the link to the results, and the language
   const focused = await browser.evaluate('document.activeElement.id');
   check(focused === 'sample', focused);
   await browser.key('Enter', 13);
@@ -388,7 +452,7 @@ async function keyboard(browser) {
   check(nameless.length === 0, `nameless: ${nameless.map((it) => it.role.value).join(' ')}`);
   check(nodes.some((it) => it.role?.value === 'status'), 'there is a live region');
   const headings = nodes.filter((it) => it.role?.value === 'heading').map((it) => it.name.value);
-  const wanted = ['Weather satellite receiver', 'Pictures', 'Texts', 'All files'];
+  const wanted = ['Weather satellite receiver', 'Pictures', 'Texts', 'All files', 'Status'];
   check(wanted.every((it) => headings.includes(it)), headings.join(', '));
 }
 
@@ -398,7 +462,7 @@ for (const name of names) {
   const browser = await kinds[name].start();
   const isChromium = name === 'chromium';
   try {
-    const shown = [sample, chosen, lacking, shelf, zip, forms, hostile, strips, screens, keyboard];
+    const shown = [sample, chosen, lacking, shelf, zip, forms, others, settings, hostile, strips, screens, keyboard];
     const all = [commands, ...shown, served, live, long];
     const parts = all.filter((it) => !process.env.PARTS || process.env.PARTS.split(' ').includes(it.name));
     for (const part of parts) {
