@@ -4,8 +4,8 @@
 # end STATUS: what a signal calls. A script with programs of its own to end has another one.
 end() { leave "$1"; }
 
-# leave STATUS: ends the script after a signal. (A further signal would end it before its folder is gone: within the trap
-# for EXIT too.)
+# leave STATUS: ends the script after a signal. (A further signal would end it before its folder is gone: within the
+# trap for EXIT too.)
 leave() {
     trap '' HUP INT TERM
     clear_away
@@ -85,7 +85,7 @@ form() {
 
 # for_decode OPTIONS: those of these options of `receive` that `decode` has too, which are all but --mend
 for_decode() {
-    kept= skip=
+    kept='' skip=''
     for word in $1; do
         if [ -n "$skip" ]; then
             skip=
@@ -104,14 +104,16 @@ for_decode() {
 reason() {
     case $1 in
     1) echo "it can't be opened, or another process writes to it" ;;
-    2) echo "the words are wrong" ;;
+    2) echo "invalid arguments" ;;
     3) echo "the input failed" ;;
     4) echo "the disk failed, or is full" ;;
     5) echo "the output couldn't be written" ;;
-    6) echo "it is no shelf, or its items break off" ;;
-    9) echo "memory was refused" ;;
+    6) echo "it is corrupt, or not a shelf: \`gomtasil salvage\` copies the files that it still has" ;;
+    9) echo "out of memory" ;;
     10) echo "it is full" ;;
     126 | 127) echo "the program can't be run" ;;
+    137) echo "it was killed (SIGKILL): perhaps the system ran out of memory" ;;
+    1[3-9][0-9] | 12[89]) echo "signal $(($1 - 128)) ended it" ;;
     *) echo "docs/FORMATS.md says what that is" ;;
     esac
 }

@@ -1,21 +1,22 @@
 #!/bin/sh
-# Receives standard input onto a shelf for each day (UTC), FOLDER/YEAR-MONTH-DAY.shelf, over one connection; with --weeks
-# for each week, FOLDER/YEAR-WEEK.shelf. Where one is full, a next one is taken, with -2 at its name's end, up to the
-# ninth.
+# Receives standard input onto a shelf for each day (UTC), FOLDER/YEAR-MONTH-DAY.shelf, over one connection; with
+# --weeks for each week, FOLDER/YEAR-WEEK.shelf. Where one is full or corrupt, a next one is taken, with -2 at its
+# name's end, up to the ninth.
 # Usage: roll.sh [--weeks] FOLDER CAPACITY RATE [OPTIONS], with the symbols a second and the options of `receive`. The
 # program is $LRITSTATION, or else `lritstation` on the path. It ends where the input does, with the status of `receive`
 # or `init`, and says why where that isn't 0.
 #
 # A call of `receive` takes what comes until midnight, and the next call goes on with the symbol that follows. What
 # straddles the change is lost: a frame, and of each channel and application the file that is under way. Where all nine
-# shelves are full, what comes until the next day is dropped; where the disk is full, what comes until there is room.
+# shelves are full or corrupt, what comes until the next day is dropped; where the disk is full, what comes until there
+# is room.
 set -u
 # shellcheck source-path=SCRIPTDIR source=common.sh
 . "$(dirname -- "$0")/common.sh"
 DAY=86400        # seconds
 WEEK=604800      # seconds
 MONDAY=345600    # seconds from the beginning of 1970 to its first Monday
-EARLY=600        # seconds before midnight from which the next shelf is taken, as no clock agrees with the symbols wholly
+EARLY=600        # seconds before midnight from which the next shelf is taken: clock and symbols never agree wholly
 MOST_SHELVES=9   # of one name
 FRAME=16384      # symbols; as frames these are 892 bytes, and as blocks 1,020
 ROOM=${ROLL_ROOM:-65536} # KiB of the disk, below which it is full
@@ -46,7 +47,8 @@ blocks) bytes=$((rate * 1020 / FRAME)) ;;
 esac
 receiving=
 
-# end STATUS: after a signal. (Where no reception writes its lines yet, what passes them on would wait for one for ever.)
+# end STATUS: after a signal. (Where no reception writes its lines yet, what passes them on would wait for one for
+# ever.)
 end() {
     [ -z "$receiving" ] || stop "$receiving"
     [ ! -p "$scratch/lines" ] || exec 4<> "$scratch/lines"
@@ -74,14 +76,14 @@ last_place() {
 made() {
     { said=$("$program" "$1" init "$capacity" 2>&1 >&4 < /dev/null); } 4>&1
     status=$?
-    # (11: it is there already)
+    # (11: it is there already; whether it is corrupt, `receive` says)
     [ "$status" != 11 ] || status=0
-    [ "$status" = 0 ] || say "init of $1 ended with $status: ${said:-$(reason "$status")}"
+    [ "$status" = 0 ] || say "init of $1 exited with $status: ${said:-$(reason "$status")}"
     return "$status"
 }
 
-# receive_onto PREFIX [OPTIONS]: receives descriptor 3 onto the last shelf of this name, and where that is full onto a
-# next one. It ends with the status of the last `receive`, or of `init`, and says it where it isn't 0.
+# receive_onto PREFIX [OPTIONS]: receives descriptor 3 onto the last shelf of this name, and where that is full or
+# corrupt onto a next one. It ends with the status of the last `receive`, or of `init`, and says it where it isn't 0.
 receive_onto() {
     prefix=$1
     shift
@@ -96,10 +98,11 @@ receive_onto() {
         wait "$receiving"
         status=$?
         receiving=
-        [ "$status" = 0 ] || say "receive onto $shelf ended with $status: $(reason "$status")"
-        if [ "$status" != 10 ] || [ "$place" = "$MOST_SHELVES" ]; then
-            return "$status"
-        fi
+        [ "$status" = 0 ] || say "receive onto $shelf exited with $status: $(reason "$status")"
+        case $status in
+        6 | 10) [ "$place" != "$MOST_SHELVES" ] || return "$status" ;;
+        *) return "$status" ;;
+        esac
         place=$((place + 1))
     done
 }
@@ -156,13 +159,13 @@ while :; do
         ;;
     4)
         ! has_room || exit 4
-        say "the disk is full: what comes is dropped until it has room for $ROOM KiB"
+        say "the disk is full: all input is dropped until $ROOM KiB are free"
         until has_room; do
             drop "$DROPPED" || exit 0
         done
         ;;
-    10)
-        say "all shelves of this name are full: what comes is dropped until the next one begins"
+    6 | 10)
+        say "all shelves of this day or week are full or corrupt: all input is dropped until the next one"
         left=$((now - EARLY + left - $(date -u +%s)))
         [ "$left" -le 0 ] || drop "$left" || exit 0
         ;;

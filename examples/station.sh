@@ -5,11 +5,11 @@
 #   SOURCE    the command that writes soft symbols, blocks or frames to its standard output, as the shell takes it
 #   RATE      symbols a second
 #   CAPACITY  bytes that a shelf may have
-#   OPTIONS   --line, --g2, --input and --mend of `receive`
+#   OPTIONS   --line, --g2, --input, --passes and --mend of `receive`
 # The program is $LRITSTATION, or else `lritstation` on the path, and the quality is told by `gomtasil`. Each file and
 # each minute has a line, on standard output and on standard error. It ends when the reception does, with its status,
 # and ends the command then; with 2 where the command can't be run. Where the quality side ends, or can't write, the
-# reception goes on.
+# reception goes on, and that side is started again.
 set -u
 here=$(dirname -- "$0")
 # shellcheck source-path=SCRIPTDIR source=common.sh
@@ -25,7 +25,8 @@ tool() {
     fi
 }
 
-# lines: what the program says of each frame of standard input. (Of frames the code is gone, and their counters are left.)
+# lines: what the program says of each frame of standard input. (Of frames the code is gone, and their counters are
+# left.)
 lines() {
     if [ "$(form "${OPTIONS-}")" = frames ]; then
         "$program" - frames
@@ -35,10 +36,32 @@ lines() {
     fi
 }
 
+# drop: takes what comes to the quality side in some ten seconds. 1 where it ends.
+drop() {
+    case $(form "${OPTIONS-}") in
+    frames) count=$((RATE * 10 * 892 / 16384)) ;;
+    blocks) count=$((RATE * 10 * 1020 / 16384)) ;;
+    *) count=$((RATE * 10)) ;;
+    esac
+    [ "$count" -gt 0 ] || count=1
+    [ "$(head -c "$count" | wc -c)" = "$count" ]
+}
+
+# quality_of FOLDER: tells of the quality of standard input, and begins again where one of the programs for it ended.
+# (Of frames and blocks it then has to be found where they begin.)
+quality_of() {
+    lines 2> /dev/null | tool quality --rate "$RATE" --keep "$1" >&2
+    while drop; do
+        say "the quality side has exited and is started again"
+        tool align "$(form "${OPTIONS-}")" 2> /dev/null | lines 2> /dev/null |
+            tool quality --rate "$RATE" --keep "$1" >&2
+    done
+}
+
 # feed FOLDER SCRATCH: what SOURCE brings to standard output, and by the FIFO there its quality to the folder. This runs
 # in a session of its own, so that all of it can be ended together.
 feed() {
-    lines < "$2/copy" 2> /dev/null | tool quality --rate "$RATE" --keep "$1" >&2 &
+    quality_of "$1" < "$2/copy" &
     # (-p: it goes on with one side where the other one ends)
     {
         sh -c "$SOURCE" < /dev/null
@@ -60,7 +83,7 @@ end() {
 told() {
     ended=0
     [ ! -s "$scratch/source" ] || read -r ended < "$scratch/source"
-    [ "$ended" = 0 ] || say "SOURCE ended with $ended: $SOURCE"
+    [ "$ended" = 0 ] || say "SOURCE exited with $ended: $SOURCE"
     case "$1 $ended" in
     "0 126" | "0 127") return 2 ;;
     esac
@@ -75,7 +98,7 @@ if [ $# != 1 ] || [ -z "${SOURCE-}" ] || [ -z "${RATE-}" ] || [ -z "${CAPACITY-}
     echo "usage: station.sh FOLDER, with SOURCE, RATE, CAPACITY and OPTIONS in the environment" >&2
     exit 2
 fi
-folder=$(path "$1")
+folder=$(path "${1%/}")
 feeding=
 receiving=
 scratch_folder
