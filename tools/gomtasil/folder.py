@@ -1,6 +1,8 @@
 """Folders that files come into: safe names, parts, and names that are given to whole files alone."""
 
 import contextlib
+import ctypes
+import errno
 import fnmatch
 import itertools
 import json
@@ -8,6 +10,7 @@ import os
 import re
 import shutil
 import string
+import sys
 from collections.abc import Callable, Collection, Iterable
 from typing import Any, NamedTuple, TypeVar
 
@@ -202,13 +205,10 @@ class Folder:
         final = self.full(name)
         if not os.path.isdir(os.path.dirname(final)):
             os.makedirs(os.path.dirname(final))
-        if os.path.isdir(part) or not link(part, final):
-            if os.path.lexists(final):
-                if not is_same(part, final):
-                    return False
-                os.unlink(part)
-            else:
-                os.rename(part, final)
+        if not move(part, final):
+            if not is_same(part, final):
+                return False
+            os.unlink(part)
         self.taken.discard(name)
         return True
 
@@ -249,14 +249,50 @@ def is_same(one: str, other: str) -> bool:
     return os.path.exists(one) and os.path.exists(other) and os.path.samefile(one, other)
 
 
-def link(part: str, final: str) -> bool:
-    """Moves a file with a link, which overwrites nothing. Returns False if links aren't supported or the name is
-    taken."""
+def renameat2() -> Callable[[bytes, bytes], int] | None:
+    """Returns Linux's rename that overwrites nothing, as a call that returns 0 or the error number. None where the C
+    library has no such call."""
     try:
-        os.link(part, final)
-    except OSError:
+        call = ctypes.CDLL(None, use_errno=True).renameat2
+    except (OSError, AttributeError):
+        return None
+    call.argtypes = [ctypes.c_int, ctypes.c_char_p, ctypes.c_int, ctypes.c_char_p, ctypes.c_uint]
+    working_folder, no_replace = -100, 1  # AT_FDCWD, RENAME_NOREPLACE
+
+    def rename(part: bytes, final: bytes) -> int:
+        return 0 if call(working_folder, part, working_folder, final, no_replace) == 0 else ctypes.get_errno()
+
+    return rename
+
+
+rename_new = renameat2()
+
+
+def move(part: str, final: str) -> bool:
+    """Gives a part its name and overwrites nothing. Returns False if the name is taken. It is one step, so that a file
+    that is taken away from its name leaves no part behind, whenever the command is killed."""
+    if rename_new is None:
+        return link(part, final)
+    sys.audit("os.rename", part, final, -1, -1)
+    fault = rename_new(os.fsencode(part), os.fsencode(final))
+    if fault in (errno.EINVAL, errno.ENOSYS, errno.ENOTSUP):
+        return link(part, final)
+    if fault not in (0, errno.EEXIST):
+        raise OSError(fault, os.strerror(fault), part, None, final)
+    return fault == 0
+
+
+def link(part: str, final: str) -> bool:
+    """Moves a part where the filesystem has no rename that overwrites nothing (NFS, FAT): by a link, or by a rename
+    where there are no links either. Between the two steps of a link a kill leaves name and part."""
+    if not os.path.isdir(part):
+        with contextlib.suppress(OSError):
+            os.link(part, final)
+            os.unlink(part)
+            return True
+    if os.path.lexists(final):
         return False
-    os.unlink(part)
+    os.rename(part, final)
     return True
 
 

@@ -102,6 +102,22 @@ class AtEachCall(Case):
             self.assertTrue(has_no_rest(folder), "no part is left")
         print(f"{command}: {place} calls at which it was stopped")
 
+    def test_a_file_that_is_taken_away_after_a_stop_comes_no_more(self) -> None:
+        files = [text_file(b"name-%d" % it, b"%d" % it) for it in range(3)]
+        write("away.shelf", shelf_of([added(number, it) for number, it in enumerate(files)]))
+        place, code = 0, None
+        while code != 0:
+            place += 1
+            folder = f"away-{place}"
+            code = watched(place, folder, "follow", "away.shelf", folder)
+            numbers = []
+            for path in taken(folder) if os.path.isdir(folder) else ():
+                numbers.append(number_in(path))
+                os.unlink(os.path.join(folder, path))
+            self.call("follow", "away.shelf", folder)
+            numbers += map(number_in, taken(folder))
+            self.assertEqual(sorted(numbers), [0, 1, 2], f"stopped before call {place}")
+
     @needs_pillow
     def test_pictures(self) -> None:
         files = [image(8, 4, 4, bytes([it] * 16), 0, [record(4, b"IMAGE_%d" % it)]) for it in range(3)]
@@ -120,7 +136,7 @@ class AtEachCall(Case):
 class TornLog(Case):
     def test_a_stop_in_the_write_of_the_log_after_any_of_its_bytes(self) -> None:
         write("torn.shelf", shelf_of([added(it, text_file(b"name-%d" % it, b"%d" % it)) for it in range(4)]))
-        self.assertEqual(watched("os.link", "torn", "follow", "torn.shelf", "torn"), 137)
+        self.assertEqual(watched("os.rename", "torn", "follow", "torn.shelf", "torn"), 137)
         log = read("torn/.follow/torn.log")
         self.assertEqual(len(os.listdir("torn/.follow/torn.parts")), 4)
         for size in sorted({*range(0, len(log), 17), len(log) - 1, len(log)}):
@@ -135,7 +151,7 @@ class TornLog(Case):
     def test_a_stop_before_any_of_many_names_is_given(self) -> None:
         count = 3000
         write("torn.shelf", shelf_of([added(it, text_file(b"name")) for it in range(count)]))
-        self.assertEqual(watched("os.link", "torn", "follow", "torn.shelf", "torn", "--name", "{number}"), 137)
+        self.assertEqual(watched("os.rename", "torn", "follow", "torn.shelf", "torn", "--name", "{number}"), 137)
         self.assertEqual(len(os.listdir("torn/.follow/torn.parts")), count)
         begun = time.monotonic()
         self.call("follow", "torn.shelf", "torn", "--name", "{number}")
