@@ -168,8 +168,10 @@ fill() {
     while read -r document; do
         put 644 "$top/$document" "share/doc/gomtasil/$document" || return 1
     done < "$scratch/documents"
-    python3 "$top/trials/index.py" "$scratch/INDEX.md" > "$scratch/said" || return 1
-    put 644 "$scratch/INDEX.md" share/doc/gomtasil/docs/INDEX.md
+    for page in index:INDEX definitions:DEFINITIONS; do
+        python3 "$top/trials/${page%:*}.py" "$scratch/${page#*:}.md" > "$scratch/said" || return 1
+        put 644 "$scratch/${page#*:}.md" "share/doc/gomtasil/docs/${page#*:}.md"
+    done
     put 644 "$top/packaging/copyright" share/doc/gomtasil/copyright
 }
 

@@ -1,267 +1,204 @@
 #!/usr/bin/env python3
-"""Compares docs/DEFINITIONS.md with the definitions themselves.
+"""Makes the list of the definitions that a reader compares with the standards.
 
-Usage: trials/definitions.py [--write]
+Usage: trials/definitions.py PAGE, or trials/definitions.py CRATE/FILE NAME
 
-The page lists the spec files that say which files a recording has, and then those of the shelf, of images and of sent
-frames. Which files these are follows from their `use` lines: a part begins at the files of `PARTS`, and has all that
-these use, directly or through others. The page has to list each of them once, in the first part that reaches it, and no
-other. A file stands after those that it uses. The standards named beside a file stand in that file's own comments. The
-numbers of files and lines, also of the further rows of `WHOLE`, are counted anew, and so are the definitions that the
-record `RECEIVE` rests on, one by one; `--write` writes the right numbers into the page first.
-
-It prints a line for each fault, and ends with status 1 where there is one.
+PAGE gets the definitions on which the promises rest, each with its first comment, by file and in reading order: a file
+follows those that it uses. The second form prints the list of one definition, such as
+`trials/definitions.py lr_cmd_receive/Receive ReceiveRun`.
 """
+import itertools
 import os
 import re
 import sys
+from collections.abc import Iterable
+from typing import NamedTuple
 
 TOP = os.path.dirname(os.path.dirname(os.path.abspath(__file__)))
-PAGE = "docs/DEFINITIONS.md"
+MENDING = "lr_mend"  # the crate whose definitions are counted apart
+HEAD = """# Definitions
 
-# the page's headings, each with the files where its part begins
-PARTS = {
-    "The files of a recording": ["crates/lr_cmd_receive/specs/Inputs.antt"],
-    "The shelf": [
-        "crates/lr_shelf_format/specs/ShelfBytes.antt",
-        "crates/lr_shelf_format/specs/Way.antt",
-        "crates/lr_shelf/specs/InitialShelves.antt",
-    ],
-    "Images": ["crates/lr_image/specs/Images.antt", "crates/lr_image/specs/Pgm.antt"],
-    "Sent frames": ["crates/lr_sent/specs/Sent.antt"],
+No proof says that a definition is the right one: a reader has to compare it with the standards, CCSDS 131.0-B (coding),
+732.0-B (AOS frames), 133.0-B (space packets), 121.0-B (lossless coding) and CGMS 03 (LRIT and HRIT). This page lists the
+definitions to read for that, in reading order, each with its first comment; a part leaves out what an earlier part has.
+The kit's definitions of lists and numbers aren't listed. `trials/definitions.py` made this page from the `use` lines.
+"""
+
+
+class Place(NamedTuple):
+    """A definition: its file, from the top of the repository, and its name."""
+
+    path: str
+    name: str
+
+
+class Definition(NamedTuple):
+    """A definition of a file: its first comment, how many lines it has, and the words in it."""
+
+    comment: str
+    lines: int
+    words: set[str]
+
+
+# the page's headings, each with the files or the definition where its part begins
+PARTS: dict[str, list[tuple[str, str | None]]] = {
+    "The files of a recording": [("lr_cmd_receive/Inputs", "files_of_bytes")],
+    "The shelf": [("lr_shelf_format/ShelfBytes", None), ("lr_shelf_format/Way", None), ("lr_shelf/InitialShelves", None)],
+    "Images": [("lr_image/Images", None), ("lr_image/Pgm", None)],
+    "Sent frames": [("lr_sent/Sent", None)],
+    "What `receive` promises": [("lr_cmd_receive/Receive", "ReceiveRun")],
+    "What the top call promises": [("lr_station/Runs", None)],
 }
-CODE_HEADING = "Types and constants of the code"
-SIZES_HEADING = "How much there is to read"
-# what is counted and not listed: all that the contract of a call rests on
-WHOLE = {
-    "All that `receive` promises": ["crates/lr_cmd_receive/specs/Receive.antt"],
-    "All that the top call promises": ["crates/lr_station/specs/Runs.antt"],
-}
 
-# the record of all that `receive` promises, and the crate of mending, whose definitions are counted apart
-RECEIVE = ("crates/lr_cmd_receive/specs/Receive.antt", "ReceiveRun")
-MENDING = "lr_mend"
-
-USE = re.compile(r"^\s*(?:pub )?use Rattle\.(lr_\w+)\.specs\.([\w.]+)", re.M)
 IMPORT = re.compile(r"^\s*(?:pub )?use Rattle\.(lr_\w+)\.specs\.([\w.]+?)\.\{([^}]*)\}", re.M)
 DEFINITION = re.compile(r"^\s*(?:(?:abbrev|unfoldable) (?:pub )?|(?:pub )?(?:record|data) )([^\s:(){}]+)")
 WORD = re.compile(r"[^\s(){}.,;:λ→×⊎≡=]+")
-COUNT_LINE = re.compile(r"^By name, .*$", re.M)
-STANDARD = re.compile(r"CCSDS|CGMS")
-LISTED = re.compile(r"^\| `(crates/[^`]+)` \|(.*)$")
-SOURCES_ROW = re.compile(r"^\| `(lr_\w+)` \| ((?:`\w+\.rt`(?:, )?)+) \|")
-SIZE_ROW = re.compile(r"^\| ([^|]+) \| ([\d,]+) \| ([\d,]+) \|$")
 
 
-def text_of(path):
+def text_of(path: str) -> str:
     with open(os.path.join(TOP, path), encoding="utf-8") as it:
         return it.read()
 
 
-def stands(path):
-    return os.path.exists(os.path.join(TOP, path))
-
-
-def file_of(crate, words, folder, ending):
-    """The file of the longest front of these words that is one, or None."""
+def file_of(crate: str, words: list[str]) -> str | None:
+    """Returns the spec file that the longest front of these words names, or None where they name the code's types."""
     for count in range(len(words), 0, -1):
-        path = f"crates/{crate}/{folder}/{'/'.join(words[:count])}{ending}"
-        if stands(path):
+        path = f"crates/{crate}/specs/{'/'.join(words[:count])}.antt"
+        if os.path.exists(os.path.join(TOP, path)):
             return path
     return None
 
 
-def uses_of(path):
-    """The files that a spec file uses: specs of this repository, and sources whose types or constants it names."""
-    specs, sources = [], []
-    for crate, name in USE.findall(re.sub(r"--[^\n]*", "", text_of(path))):
-        words = name.rstrip(".").split(".")
-        declared = words[0] == "declared"
-        found = file_of(crate, words[1:], "src", ".rt") if declared else file_of(crate, words, "specs", ".antt")
-        if found is None:
-            sys.exit(f"trials/definitions.py: {path} uses {crate} {name}, which is no file")
-        (sources if declared else specs).append(found)
-    return specs, sources
+class File:
+    """A spec file: its definitions in their order, and the place of each name that it imports."""
 
+    def __init__(self, path: str) -> None:
+        text = text_of(path)
+        said = " ".join(it[3:] for it in itertools.takewhile(lambda it: it.startswith("-- "), text.splitlines()))
+        self.title = said.partition(". ")[0].rstrip(".")
+        self.imports: dict[str, Place] = {}
+        for crate, module, names in IMPORT.findall(re.sub(r"--[^\n]*", "", text)):
+            source = file_of(crate, module.split("."))
+            for name, _, alias in (it.strip().partition(" as ") for it in names.split(",")):
+                if source and name:
+                    self.imports[alias.strip() or name] = Place(source, name)
+        self.definitions: dict[str, Definition] = {}
+        self.read(text)
 
-def closure_of(starts):
-    """All spec files that these use, with themselves, and the sources that any of them names."""
-    specs, sources, left = set(), set(), list(starts)
-    while left:
-        path = left.pop()
-        if path not in specs:
-            specs.add(path)
-            further, named = uses_of(path)
-            left += further
-            sources.update(named)
-    return specs, sources
-
-
-def sections_of(page):
-    """The lines after each heading of the page."""
-    found, lines = {}, []
-    for line in page.splitlines():
-        if line.startswith("## "):
-            lines = found.setdefault(line[3:].strip(), [])
-        else:
-            lines.append(line)
-    return found
-
-
-def rows_of(lines):
-    """The files of a section's table, in their order, each with the rest of its row."""
-    return [found.groups() for found in map(LISTED.match, lines) if found]
-
-
-def sources_in(lines):
-    """The sources of a table that has a row for each crate."""
-    found = [row.groups() for row in map(SOURCES_ROW.match, lines) if row]
-    return [f"crates/{crate}/src/{name}" for crate, names in found for name in re.findall(r"[\w.]+", names)]
-
-
-def compare(heading, true, told, faults):
-    """The files that a section has to list, and those that it lists."""
-    faults += [f"'{heading}' lacks {path}" for path in sorted(true - set(told))]
-    faults += [f"'{heading}' lists {path}, which doesn't belong there" for path in told if path not in true]
-    faults += [f"'{heading}' lists {path} twice" for path in sorted(set(told)) if told.count(path) > 1]
-
-
-def look_at_order(paths, faults):
-    """Each file stands after those that it uses."""
-    places = {path: number for number, path in enumerate(paths)}
-    for path in filter(stands, paths):
-        for used in sorted(set(uses_of(path)[0])):
-            if places.get(used, -1) > places[path]:
-                faults.append(f"{path} stands before {used}, which it uses")
-
-
-def look_at_standards(rows, faults):
-    """What a row cites stands in the comments of its file; a row with `-` has a file that cites nothing."""
-    for path, rest in rows:
-        cell = rest.split("|")[0].strip()
-        if not stands(path):
-            continue
-        comments = " ".join(re.findall(r"--+ ?(.*)", text_of(path)))
-        if cell == "-":
-            faults += [f"{path} names {it}, and its row has '-'" for it in sorted(set(STANDARD.findall(comments)))]
-        else:
-            faults += [f"{path} doesn't name '{it.strip()}'" for it in cell.split(";") if it.strip() not in comments]
+    def read(self, text: str) -> None:
+        name, comment = None, ""
+        for line in text.splitlines():
+            found = DEFINITION.match(line)
+            if line.lstrip().startswith("-- "):
+                comment = f"{comment} {line.lstrip()[3:]}".strip()
+            elif found and found[1] not in self.definitions:
+                name = found[1]
+                self.definitions[name] = Definition(comment, 1, set(WORD.findall(line)))
+            elif line.strip().startswith(("module ", "use ", "pub use ")):
+                name = None
+            elif name and line.strip():
+                it = self.definitions[name]
+                words = it.words | set(WORD.findall(line.partition(" -- ")[0]))
+                self.definitions[name] = Definition(it.comment, it.lines + 1, words)
+            if not line.lstrip().startswith("-- "):
+                comment = ""
 
 
 class Definitions:
-    """The definitions of spec files by their names, and which of them each one names."""
+    """All spec files that were asked for, and which definitions each definition rests on."""
 
-    def __init__(self):
-        self.files = {}
+    def __init__(self) -> None:
+        self.files: dict[str, File] = {}
 
-    def of_file(self, path):
-        """The words of each definition of a file, and where each name that it imports is defined."""
+    def of_file(self, path: str) -> File:
         if path not in self.files:
-            text = re.sub(r"--[^\n]*", "", text_of(path))
-            imports = {}
-            for crate, module, names in IMPORT.findall(text):
-                source = file_of(crate, module.split("."), "specs", ".antt")
-                for name, _, alias in (it.strip().partition(" as ") for it in names.split(",")):
-                    if source and name:
-                        imports[alias.strip() or name] = (source, name)
-            words, name = {}, None
-            for line in IMPORT.sub("", text).splitlines():
-                found = DEFINITION.match(line)
-                if found or line.strip().startswith("module "):
-                    name = found and found[1]
-                if name:
-                    words.setdefault(name, set()).update(WORD.findall(line))
-            self.files[path] = words, imports
+            self.files[path] = File(path)
         return self.files[path]
 
-    def under(self, start, without):
-        """All that this one rests on, itself among them, but for those of a crate and what these alone reach."""
-        found, left = set(), [start]
+    def starts(self, file: str, name: str | None) -> list[Place]:
+        crate, _, module = file.partition("/")
+        path = f"crates/{crate}/specs/{module}.antt"
+        if not os.path.exists(os.path.join(TOP, path)):
+            sys.exit(f"trials/definitions.py: there is no {path}")
+        names = self.of_file(path).definitions
+        if name is not None and name not in names:
+            sys.exit(f"trials/definitions.py: {path} defines no {name}")
+        return [Place(path, it) for it in ([name] if name else names)]
+
+    def under(self, starts: Iterable[Place], without: str = "-") -> set[Place]:
+        """Returns all that these rest on, themselves among them, but for those of a crate and what these alone reach."""
+        found: set[Place] = set()
+        left = list(starts)
         while left:
-            path, name = one = left.pop()
-            if one in found or path.startswith(f"crates/{without}/"):
+            one = left.pop()
+            if one in found or one.path.startswith(f"crates/{without}/"):
                 continue
-            words, imports = self.of_file(path)
-            if name in words:
+            file = self.of_file(one.path)
+            if one.name in file.definitions:
                 found.add(one)
-                left += [imports.get(word, (path, word)) for word in words[name] if word in imports or word in words]
+                for word in file.definitions[one.name].words:
+                    left += [file.imports[word]] if word in file.imports else [Place(one.path, word)]
         return found
 
+    def in_order(self, paths: set[str]) -> list[str]:
+        """Returns the files in reading order."""
+        order: list[str] = []
+        seen: set[str] = set()
 
-def count_line():
-    """The page's line of what `receive` rests on."""
-    definitions = Definitions()
-    whole, plain = (len(definitions.under(RECEIVE, without)) for without in ("-", MENDING))
-    return f"By name, `receive` rests on {plain} definitions, and on {whole} with those of mending."
+        def visit(path: str) -> None:
+            if path not in seen:
+                seen.add(path)
+                for used in sorted({it.path for it in self.of_file(path).imports.values()}):
+                    visit(used)
+                order.append(path)
 
+        for path in sorted(paths):
+            visit(path)
+        return [it for it in order if it in paths]
 
-def size_of(paths):
-    return len(paths), sum(len(text_of(path).splitlines()) for path in paths)
+    def table(self, places: set[Place]) -> str:
+        """Returns a table for each file, with a row for each of these definitions."""
+        said = []
+        for path in self.in_order({it.path for it in places}):
+            file = self.of_file(path)
+            said.append(f"\n`{path}`: {file.title}\n\n| definition | lines | what it says |\n|---|---|---|")
+            for name, it in file.definitions.items():
+                if Place(path, name) in places:
+                    said.append(f"| `{name}` | {it.lines} | {it.comment.replace('|', chr(92) + '|')} |")
+        return "\n".join(said)
 
-
-def row_of(name, sizes):
-    files, lines = sizes[name]
-    return f"| {name} | {files:,} | {lines:,} |"
-
-
-def look_at_sizes(lines, sizes, faults):
-    """The rows of numbers: files and lines of each part, and of each row of `WHOLE`."""
-    told = {found[1]: found[0] for found in map(SIZE_ROW.match, lines) if found}
-    for name in sizes:
-        if told.get(name) != row_of(name, sizes):
-            faults.append(f"'{SIZES_HEADING}' has to have the row: {row_of(name, sizes)}")
-    faults += [f"'{SIZES_HEADING}' has a row of its own: {name}" for name in told if name not in sizes]
-
-
-def look_at_count(faults):
-    if [count_line()] != COUNT_LINE.findall(text_of(PAGE)):
-        faults.append(f"'{SIZES_HEADING}' has to have the line: {count_line()}")
-
-
-def all_sizes():
-    """The files and lines that each row of numbers has to have."""
-    found = {heading: closure_of(starts)[0] for heading, starts in PARTS.items()}
-    found["These four together"] = set().union(*found.values())
-    found.update({name: closure_of(starts)[0] for name, starts in WHOLE.items()})
-    return {name: size_of(paths) for name, paths in found.items()}
+    def size(self, places: set[Place]) -> str:
+        lines = sum(self.of_file(it.path).definitions[it.name].lines for it in places)
+        return f"{len(places):,} definitions in {len({it.path for it in places})} files, {lines:,} lines"
 
 
-def look_at_page(sizes):
-    faults, before, sources, order = [], set(), set(), []
-    sections = sections_of(text_of(PAGE))
+def page_of(known: Definitions) -> str:
+    text, before = HEAD, set[Place]()
     for heading, starts in PARTS.items():
-        specs, named = closure_of(starts)
-        rows = rows_of(sections.get(heading, []))
-        compare(heading, specs - before, [path for path, _ in rows], faults)
-        look_at_standards(rows, faults)
-        before |= specs
-        sources |= named
-        order += [path for path, _ in rows]
-    compare(CODE_HEADING, sources, sources_in(sections.get(CODE_HEADING, [])), faults)
-    for heading in sections.keys() - PARTS.keys():
-        compare(heading, set(), [path for path, _ in rows_of(sections[heading])], faults)
-    look_at_order(order, faults)
-    look_at_sizes(sections.get(SIZES_HEADING, []), sizes, faults)
-    look_at_count(faults)
-    return faults, len(order)
+        all_starts = [place for file, name in starts for place in known.starts(file, name)]
+        places = known.under(all_starts)
+        plain = known.under(all_starts, MENDING)
+        text += f"\n## {heading}\n\nIt rests on {known.size(places)}"
+        text += f"; without mending on {len(plain):,}" * (len(plain) < len(places))
+        text += f". {len(places - before):,} of them are new here.\n{known.table(places - before)}\n"
+        before |= places
+    return text
 
 
-def write_sizes(sizes):
-    """Writes the right numbers into the rows that the page has."""
-    lines = text_of(PAGE).splitlines()
-    for number, line in enumerate(lines):
-        found = SIZE_ROW.match(line)
-        if found and found[1] in sizes:
-            lines[number] = row_of(found[1], sizes)
-    with open(os.path.join(TOP, PAGE), "w", encoding="utf-8") as it:
-        it.write(COUNT_LINE.sub(count_line(), "\n".join(lines)) + "\n")
+def main(words: list[str]) -> int:
+    known = Definitions()
+    if len(words) == 2:
+        places = known.under(known.starts(words[0], words[1]))
+        print(f"{words[1]} rests on {known.size(places)}\n{known.table(places)}")
+        return 0
+    if len(words) != 1:
+        print((__doc__ or "").split("\n\n")[1], file=sys.stderr)
+        return 2
+    os.makedirs(os.path.dirname(os.path.abspath(words[0])), exist_ok=True)
+    with open(words[0], "w", encoding="utf-8") as it:
+        it.write(page_of(known))
+    return 0
 
 
-true_sizes = all_sizes()
-if "--write" in sys.argv[1:]:
-    write_sizes(true_sizes)
-found_faults, listed = look_at_page(true_sizes)
-for it in found_faults:
-    print(f"trials/definitions.py: {it}")
-print(f"trials/definitions.py: {listed} files of definitions, {len(found_faults)} faults")
-sys.exit(1 if found_faults else 0)
+if __name__ == "__main__":
+    sys.exit(main(sys.argv[1:]))

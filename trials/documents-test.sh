@@ -36,8 +36,6 @@ planted crates/lr_lock/specs/Thresholds.antt "six""teen : ℕ; six""teen = 163""
 planted crates/lr_shelf/src/gate.rt "fn planted(n: usize) -> bool { n < 1""3 }" "1""3: write GATE_BYTES"
 planted crates/lr_lock/src/sizes.rt "fn planted(n: usize) requires { n + 7""7 ≤ LOCK_SYMBOLS } {}" "7""7: write a constant from which"
 planted trials/bare_numbers_kept.txt "lr_gf/src/lib.rt | 9""9 | -" "has no bare 9""9 any more"
-planted docs/DEFINITIONS.md "| \`crates/lr_gf/specs/Systems.antt\` | - | |" "lists crates/lr_gf/specs/Systems.antt, which doesn't belong"
-planted crates/lr_gf/specs/Dual.antt "use Rattle.lr_gf.specs.Systems.{Solves}" "lacks crates/lr_gf/specs/Systems.antt"
 planted README.md "$(printf '%0121d' 0)" "more than 120 columns"
 
 # changed FILE SCRIPT SAID: with this change by sed, documents.sh fails and says this
@@ -55,7 +53,6 @@ changed lritstation 's/^  repack N BLOCK  /  recode N BLOCK  /' "lritstation: th
 changed packaging/words.sh 's/ | trial)/)/' "packaging/words.sh: the commands that may write are"
 changed tools/gomtasil/embedded.py 's/, "trial"}/}/' "tools/gomtasil/embedded.py: the commands that may write are"
 changed pyproject.toml 's/^version = .*/version = "0"/' "pyproject.toml: the version is"
-changed docs/DEFINITIONS.md 's/ rests on [0-9]* definitions/ rests on 1 definitions/' "has to have the line: By name"
 
 # blessed NAME LABELS SCRIPT: where `index.py` is changed by this script of sed, it makes a page with other labels of
 # this call, and the second count says which are right: these, which were read in the sources

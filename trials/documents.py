@@ -54,7 +54,8 @@ def is_path(token):
 def stands(token):
     """Whether a file or folder of this name is there: from the top, beside the documents, or in a crate."""
     token = token.rstrip("/")
-    for start in ("", "docs/", "crates/", "crates/*/", "crates/*/src/", "crates/*/specs/", "crates/*/proofs/", "trials/", "bench/", "reference/", "examples/", "crates/*/must-fail/"):
+    for start in ("", "docs/", "crates/", "crates/*/", "crates/*/src/", "crates/*/specs/", "crates/*/proofs/", "trials/", "bench/", "reference/", "examples/", "crates/*/must-fail/",
+                  "tools/gomtasil/", "packaging/", "packaging/web/", "packaging/web/page/"):
         for end in ("", ".antt", ".rt"):
             if glob.glob(start + token + end):
                 return True

@@ -1,12 +1,12 @@
 #!/bin/sh
 # The documents against the sources: each file, script, definition and call that they name is there, the layers of the
 # crates are those of crates.txt, the numbers that they repeat are right, every public function has a doc comment, and
-# no line is too long. Then the numbers in the sources: one that has a name is written by its name.
-# `docs/DEFINITIONS.md` lists just the definitions that the promises rest on, and the index, which is written as
-# `out/INDEX.md`, has the clauses that a second count finds too. It says what isn't so, and ends with 1 then. Usage:
-# trials/documents.sh. Needs python3; where that is missing nothing is looked at, with a word.
+# no line is too long. Then the numbers in the sources: one that has a name is written by its name. The list of
+# definitions and the index are written as `out/DEFINITIONS.md` and `out/INDEX.md`, and a second count finds the same
+# clauses. Exits with 1 where something isn't so. Usage: trials/documents.sh. Needs python3; without it nothing is
+# checked.
 top=$(cd "$(dirname "$0")/.." && pwd)
 command -v python3 > /dev/null || { echo "trials/documents.sh: python3 is missing, so nothing was looked at"; exit 77; }
 python3 "$top/trials/documents.py" "$top" || exit 1
-cd "$top" && python3 trials/bare_numbers.py && python3 trials/definitions.py && python3 trials/index.py out/INDEX.md &&
-    exec python3 trials/index_test.py out/INDEX.md
+cd "$top" && python3 trials/bare_numbers.py && python3 trials/definitions.py out/DEFINITIONS.md &&
+    python3 trials/index.py out/INDEX.md && exec python3 trials/index_test.py out/INDEX.md
