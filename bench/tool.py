@@ -1,12 +1,11 @@
 #!/usr/bin/env python3
-"""Times the tool over a shelf of many files, and the scripts that it replaced in turn with it: a page and all pictures,
-first into an empty folder and then where nothing is new. A row for each run has its wall, its processor time with that
-of what it starts, and its peak of memory.
+"""Times the tool over a shelf of many files: a page and all pictures, or `follow`, first into an empty folder and then
+without new files. A row for each run has its wall time, its processor time with that of its children, and its peak of
+memory.
 
-Usage: tool.py [--old FOLDER] [--files N] [--runs N], with the built program as $LRITSTATION. It needs Debian's package
-time. FOLDER has the files of the scripts' commit, as `git archive 71ab5eb1 | tar x -C FOLDER` writes them; their
-pictures.sh makes PNG where netpbm is there. Of N files (100,000) one in fifty is a segment, four of which make a
-picture of 160 columns and lines; the others are bulletins. With --follow it is `follow` that is timed.
+Usage: tool.py [--files N] [--runs N] [--follow], with the built program as $LRITSTATION. It needs Debian's package
+time. Of N files (100,000) one in fifty is a segment, four of which make a picture of 160 columns and lines; the others
+are bulletins.
 """
 
 import argparse
@@ -15,6 +14,7 @@ import shutil
 import subprocess
 import sys
 import tempfile
+from collections.abc import Iterator
 
 TOP = os.path.dirname(os.path.dirname(os.path.abspath(__file__)))
 sys.path.insert(0, os.path.join(TOP, "tools"))
@@ -29,7 +29,7 @@ TEXT = (
 )
 
 
-def missions(count):
+def missions(count: int) -> Iterator[tuple[int, int, bytes]]:
     """The channel, the application and the bytes of each file."""
     for number in range(count):
         if number % EVERY:
@@ -50,13 +50,13 @@ def missions(count):
         yield 13, 313, xrit.mission_file(xrit.IMAGE_TYPE, b"".join(records), pixels)
 
 
-def items(count):
+def items(count: int) -> Iterator[bytes]:
     """The items of a shelf, one after another."""
     for number, (channel, application, proper) in enumerate(missions(count)):
         yield shelf.item_of(channel, application, sample.bodies_of(number, proper), number)
 
 
-def run(words):
+def run(words: list[str]) -> tuple[float, float, float]:
     """The wall, the processor time and the peak of memory (KiB) of a command, by GNU time."""
     done = subprocess.run(
         ["/usr/bin/time", "-f", "%e %U %S %M", *words], stdout=subprocess.DEVNULL, stderr=subprocess.PIPE
@@ -67,24 +67,13 @@ def run(words):
     return wall, user + system, peak
 
 
-def told(what, who, used):
+def report(what: str, used: tuple[float, float, float]) -> None:
     wall, seconds, peak = used
-    print(f"| {what} | {who} | {wall:.2f} s | {seconds:.2f} s | {peak / 1024:.0f} MB |", flush=True)
+    print(f"| {what} | {wall:.2f} s | {seconds:.2f} s | {peak / 1024:.0f} MB |", flush=True)
 
 
-def commands_of(old):
-    """The commands of the tool, and of the scripts where these are there."""
-    found = {"tool": {name: [*TOOL, name] for name in ("page", "pictures", "follow")}}
-    if old:
-        scripts = {"page": [sys.executable, "report.py"], "pictures": ["sh", "pictures.sh"]}
-        scripts["follow"] = [sys.executable, "follow.py"]
-        found["scripts"] = {name: [it[0], os.path.join(old, "examples", it[1])] for name, it in scripts.items()}
-    return found
-
-
-def main():
+def main() -> None:
     parser = argparse.ArgumentParser(description=__doc__, formatter_class=argparse.RawDescriptionHelpFormatter)
-    parser.add_argument("--old", type=os.path.abspath)
     parser.add_argument("--files", type=int, default=100_000)
     parser.add_argument("--runs", type=int, default=1)
     parser.add_argument("--follow", action="store_true")
@@ -95,14 +84,14 @@ def main():
         with open("many.shelf", "wb") as it:
             it.write(body)
         print(f"{words.files} files, {len(body) / 1e6:.0f} MB, load {os.getloadavg()[0]:.1f}")
-        print("| what | by | wall | processor | memory |\n|---|---|---|---|---|", flush=True)
+        print("| what | wall | processor | memory |\n|---|---|---|---|", flush=True)
         del body
         for _ in range(words.runs):
             for what in ["follow"] if words.follow else ["page", "pictures"]:
-                for who, commands in commands_of(words.old).items():
-                    told(what, who, run([*commands[what], "many.shelf", "folder"]))
-                    told(f"{what}, nothing new", who, run([*commands[what], "many.shelf", "folder"]))
-                    shutil.rmtree("folder")
+                command = [*TOOL, what, "many.shelf", "folder"]
+                report(what, run(command))
+                report(f"{what}, again", run(command))
+                shutil.rmtree("folder")
     print(f"load {os.getloadavg()[0]:.1f}")
 
 

@@ -1,5 +1,5 @@
 """Writes the manual page and the completions of lritdemod from its help (crates/lritdemod/stdout, which the gate
-compares with the program's) and from docs/OPERATING.md. Usage: demod_pages.py man|bash|zsh|fish TOP VERSION, with
+compares with the program's) and from docs/RECEIVING.md. Usage: demod_pages.py man|bash|zsh|fish TOP VERSION, with
 SOURCE_DATE_EPOCH."""
 
 import os
@@ -54,8 +54,8 @@ def in_line(text: str) -> str:
 
 
 def radios(top: Path) -> list[str]:
-    """The section of OPERATING on radios: prose, the table's rows and the list."""
-    section = text_of(top, "docs/OPERATING.md").split("\n### From a radio, or from complex samples\n")[1]
+    """The section of RECEIVING on radios: prose, the table's rows and the list."""
+    section = text_of(top, "docs/RECEIVING.md").split("\n### From a radio, or from complex samples\n")[1]
     written: list[str] = []
     for block in section.split("\n**Several recordings**")[0].strip().split("\n\n"):
         lines = block.split("\n")

@@ -227,7 +227,7 @@ try_ways_in() {
     take_published 15001 4096 symbols
 }
 
-# take_published PORT SIZE FILE [OPTIONS]: the line of docs/OPERATING.md, with a publisher of this file in messages of
+# take_published PORT SIZE FILE [OPTIONS]: the line of docs/RECEIVING.md, with a publisher of this file in messages of
 # this size
 take_published() {
     port=$1
