@@ -9,6 +9,7 @@ are bulletins.
 """
 
 import argparse
+import datetime
 import os
 import shutil
 import subprocess
@@ -43,7 +44,7 @@ def missions(count: int) -> Iterator[tuple[int, int, bytes]]:
         records = [
             sample.structure(8, SIDE, lines),
             sample.annotation(f"OR_ABI-L2-CMIPF-M6C13_G16_s{image:011d}_{part}.lrit"),
-            sample.stamp(sample.WHEN + image * sample.datetime.timedelta(minutes=10)),
+            sample.stamp(sample.WHEN + image * datetime.timedelta(minutes=10)),
             sample.segment(image % 65536, part, part * lines, PARTS, SIDE, SIDE),
         ]
         pixels = bytes((image + part + place) % 256 for place in range(SIDE)) * lines
