@@ -7,73 +7,15 @@
 # Usage: bench/downlinks.sh [RUNS [FRAMES [FOLDER]]]; FOLDER (/dev/shm) is where shelf and streams stand. Needs rt and
 # python3.
 set -e
-top=$(cd "$(dirname "$0")/.." && pwd)
-scratch=$(mktemp -d "${3:-/dev/shm}/downlinks.XXXXXX")
-trap 'rm -rf "$scratch"' EXIT
-"$top/lritstation" - frames < /dev/null > "$scratch/build.log" 2>&1 || { cat "$scratch/build.log"; exit 1; }
-cp "$top/crates/lr_program/out/lr_program" "$scratch/lritstation"
+. "$(dirname "$0")/../trials/lib.sh"
+within=${3:-/dev/shm}
+scratch_folder
+find_program
+cp "$LRITSTATION" "$scratch/lritstation"
 cd "$scratch"
 for start in 1 2 3 4; do
     ./lritstation - make $start "${2:-2048}" 0 > symbols.$start
     ./lritstation - make $start "${2:-2048}" 0 --output frames > frames.$start
 done
 "$top/examples/bundle.sh" symbols.1 symbols.2 symbols.3 symbols.4 > bundle
-PYTHONPATH=$top/reference PYTHONDONTWRITEBYTECODE=1 python3 - "${1:-5}" << 'PYTHON'
-import os, subprocess, sys, time
-
-import blocks, uplink
-
-RECORDINGS = (1, 2, 3, 4)
-
-
-def run(words, path):
-    """The wall time of a command over this input, and its last line."""
-    begin = time.monotonic()
-    with open(path, 'rb') as source:
-        done = subprocess.run(['./lritstation', 'shelf'] + words.split(), stdin=source, capture_output=True, check=True)
-    return time.monotonic() - begin, done.stdout.decode().splitlines()[-1]
-
-
-def seconds(words, paths):
-    """The time of these calls onto an empty shelf, and how many files stand there then."""
-    if os.path.exists('shelf'):
-        os.remove('shelf')
-    run('init 1000000000', os.devnull)
-    took = sum(run(words, path)[0] for path in paths)
-    return took, int(run('list', os.devnull)[1].split()[1])
-
-
-JOBS = {
-    'receive': ('receive', ['symbols.%d' % k for k in RECORDINGS]),
-    'frames': ('receive --input frames', ['frames.%d' % k for k in RECORDINGS]),
-    'downlinks': ('downlinks', ['bundle']),
-}
-best = {}
-for _ in range(int(sys.argv[1])):
-    for name, (words, paths) in JOBS.items():
-        took, files = seconds(words, paths)
-        best[name] = min(best.get(name, 1e9), took)
-        print(f'{name:10} {files:6} files {took:7.3f} s')
-print(f'downlinks takes {best["downlinks"]:.3f} s, four calls of receive {best["receive"]:.3f}: '
-      f'{best["receive"] / best["downlinks"]:.2f} times as fast, the best of {sys.argv[1]} runs')
-print(f'what stands under the lock takes at most {best["frames"]:.3f} s in one thread')
-
-
-def small_files(frames):
-    """A bundle of one recording, of frames with 48 files of ten bytes each."""
-    body = bytes(10)
-    one = uplink.packet(100, 3, 0, body + uplink.checksum(body))
-    zone = 48 * one + uplink.packet(2047, 3, 0, bytes(884 - 48 * len(one) - 6))
-    frame = int(f'01{7:08b}{0:06b}{0:024b}0{0:07b}{0:05b}{0:011b}', 2).to_bytes(8, 'big') + zone
-    words = [blocks.encoded([frame[4 * i + k] for i in range(223)]) for k in range(4)]
-    plain = [words[place % 4][place // 4] for place in range(1020)]
-    block = [a ^ b for a, b in zip(plain, blocks.SEQUENCE)]
-    symbols = bytes(uplink.symbols([block, block], False, True)[16384:])
-    return bytes([1]) + (frames * len(symbols)).to_bytes(8, 'big') + frames * symbols
-
-
-with open('small', 'wb') as target:
-    target.write(small_files(16383))
-took, files = seconds('downlinks', ['small'])
-print(f'{files} small files {took:7.3f} s')
-PYTHON
+PYTHONPATH=$top/reference PYTHONDONTWRITEBYTECODE=1 python3 "$top/bench/downlinks.py" "${1:-5}"

@@ -5,10 +5,9 @@
 # by reference/lines.py.
 # Usage: bench/export.sh [RUNS]. The best of RUNS runs is taken (5). Needs rt, gcc and python3.
 set -e
-top=$(cd "$(dirname "$0")/.." && pwd)
+. "$(dirname "$0")/../trials/lib.sh"
 runs=${1:-5}
-scratch=$(mktemp -d)
-trap 'rm -rf "$scratch"' EXIT
+scratch_folder
 (cd "$top/crates/lr_bench" && rt run -- none 1 > "$scratch/build.log" 2>&1) || { cat "$scratch/build.log"; exit 1; }
 ours="$top/crates/lr_bench/out/lr_bench"
 theirs="$scratch/theirs"
@@ -22,7 +21,7 @@ picoseconds() {
     pixels=$1
     shift
     best=
-    for run in $(seq "$runs"); do
+    for _ in $(seq "$runs"); do
         start=$(date +%s%N)
         "$@" < "$scratch/input" > "$scratch/line" 2> /dev/null || { echo 0; return; }
         each=$((($(date +%s%N) - start) * 1000 / pixels))

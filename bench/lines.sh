@@ -4,12 +4,11 @@
 # The lines are drawn and coded by reference/lines.py.
 # Usage: bench/lines.sh [RUNS] [ROUNDS]. The best of RUNS runs (5) is taken, each of ROUNDS rounds (40) of 100 lines.
 set -e
-top=$(cd "$(dirname "$0")/.." && pwd)
+. "$(dirname "$0")/../trials/lib.sh"
 runs=${1:-5}
 rounds=${2:-40}
 lines=100
-scratch=$(mktemp -d)
-trap 'rm -rf "$scratch"' EXIT
+scratch_folder
 (cd "$top/crates/lr_bench" && rt run -- none 1 > "$scratch/build.log" 2>&1) || { cat "$scratch/build.log"; exit 1; }
 ours="$top/crates/lr_bench/out/lr_bench lines"
 theirs=
@@ -18,7 +17,7 @@ if gcc -O3 "$top/bench/lines.c" -o "$scratch/libaec" -laec 2> "$scratch/gcc.log"
 # the least time of a pixel, in picoseconds: PROGRAM BLOCK COLUMNS
 picoseconds() {
     best=
-    for run in $(seq "$runs"); do
+    for _ in $(seq "$runs"); do
         start=$(date +%s%N)
         $1 10 "$2" "$3" "$lines" "$rounds" < "$scratch/coded" > "$scratch/line"
         each=$((($(date +%s%N) - start) * 1000 / (rounds * lines * $3)))
@@ -54,7 +53,7 @@ coding_picoseconds() {
     bits=$1 block=$2 columns=$3
     shift 3
     best=
-    for run in $(seq "$runs"); do
+    for _ in $(seq "$runs"); do
         start=$(date +%s%N)
         "$@" "$bits" "$block" "$columns" "$lines" "$rounds" < "$scratch/samples" > "$scratch/line"
         each=$((($(date +%s%N) - start) * 1000 / (rounds * lines * columns)))

@@ -3,11 +3,10 @@
 # -O3). Then frames a second from window to outcome, by lr_bench alone.
 # Usage: bench/lock.sh [RUNS]. The best of RUNS runs is taken (5). Needs rt and gcc.
 set -e
-top=$(cd "$(dirname "$0")/.." && pwd)
+. "$(dirname "$0")/../trials/lib.sh"
 runs=${1:-5}
 crate=lr_bench
-scratch=$(mktemp -d)
-trap 'rm -rf "$scratch"' EXIT
+scratch_folder
 (cd "$top/crates/$crate" && rt run -- lock 1 > "$scratch/build.log" 2>&1) || { cat "$scratch/build.log"; exit 1; }
 cp "$top/crates/$crate/out/$crate" "$scratch/rattle"
 gcc -O3 "$top/bench/lock.c" -o "$scratch/c"
@@ -15,7 +14,7 @@ gcc -O3 "$top/bench/lock.c" -o "$scratch/c"
 # the least time of a round, in picoseconds
 picoseconds() {
     program=$1 name=$2 rounds=$3 best=
-    for run in $(seq "$runs"); do
+    for _ in $(seq "$runs"); do
         start=$(date +%s%N)
         "$scratch/$program" "$name" "$rounds" > "$scratch/$program.line"
         each=$((($(date +%s%N) - start) * 1000 / rounds))

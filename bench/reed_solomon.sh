@@ -3,17 +3,16 @@
 # code is in the library; gcc -O3 builds the program around it).
 # Usage: bench/reed_solomon.sh [RUNS]. The best of RUNS runs is taken (7). Needs rt, gcc and libfec-dev.
 set -e
-top=$(cd "$(dirname "$0")/.." && pwd)
+. "$(dirname "$0")/../trials/lib.sh"
 runs=${1:-7}
-scratch=$(mktemp -d)
-trap 'rm -rf "$scratch"' EXIT
+scratch_folder
 (cd "$top/crates/lr_bench" && rt run -- rs 1 > "$scratch/build.log" 2>&1) || { cat "$scratch/build.log"; exit 1; }
 gcc -O3 "$top/bench/reed_solomon.c" -o "$scratch/libfec" -lfec
 
 # the least time of a round, in nanoseconds
 nanoseconds() {
     program=$1 name=$2 rounds=$3 best=
-    for run in $(seq "$runs"); do
+    for _ in $(seq "$runs"); do
         start=$(date +%s%N)
         "$program" "$name" "$rounds" > "$scratch/line"
         each=$((($(date +%s%N) - start) / rounds))

@@ -8,7 +8,7 @@
 # MB free; the two take turns, and the best of this many runs is taken (500 appends, 15 runs). Needs rt, gcc and
 # python3.
 set -e
-top=$(cd "$(dirname "$0")/.." && pwd)
+. "$(dirname "$0")/../trials/lib.sh"
 folder=${1:-.}
 appends=${2:-500}
 runs=${3:-15}
@@ -32,8 +32,8 @@ least() {
     if [ -z "$1" ] || [ "$2" -lt "$1" ]; then echo "$2"; else echo "$1"; fi
 }
 
-shelf= plain=
-for run in $(seq "$runs"); do
+shelf='' plain=''
+for _ in $(seq "$runs"); do
     shelf=$(least "$shelf" "$(nanoseconds "$ours" shelf-file "$appends")")
     plain=$(least "$plain" "$(nanoseconds ./plain "$appends")")
 done
@@ -42,24 +42,19 @@ awk -v n="$appends" -v shelf="$shelf" -v plain="$plain" 'BEGIN {
 
 # puts a shelf of this many files into `shelf.bench`
 make_shelf() {
-    PYTHONPATH=$top/reference python3 - "$1" <<'PYTHON'
-import sys
-from shelf import header, old
-with open('shelf.bench', 'wb') as f:
-    f.write(header(1, 1 << 40) + (b'\x01' + old((0, 100, [b'\xA5' * 26]))) * int(sys.argv[1]) + b'\x00')
-PYTHON
+    PYTHONPATH=$top/reference python3 "$top/bench/shelf_made.py" "$1"
 }
 
 make_shelf 100000
 load=
-for run in $(seq "$runs"); do
+for _ in $(seq "$runs"); do
     load=$(least "$load" "$(nanoseconds "$ours" shelf-load 1)")
 done
 awk -v load="$load" -v line="$(cat line)" 'BEGIN { printf "load: %s, %.1f ms\n", line, load / 1e6 }'
 
 # one load from memory: what 201 loads take more than one, by 200
-one= more=
-for run in $(seq "$runs"); do
+one='' more=''
+for _ in $(seq "$runs"); do
     one=$(least "$one" "$(nanoseconds "$ours" shelf-loads 1)")
     more=$(least "$more" "$(nanoseconds "$ours" shelf-loads 201)")
 done
@@ -68,11 +63,7 @@ awk -v one="$one" -v more="$more" 'BEGIN { printf "load from memory: 100000 file
 # the greatest resident memory, in KiB, of a process that loads this many files
 resident() {
     make_shelf "$1"
-    python3 - "$ours" <<'PYTHON'
-import resource, subprocess, sys
-subprocess.run([sys.argv[1], 'shelf-load', '1'], stdout=subprocess.DEVNULL, check=True)
-print(resource.getrusage(resource.RUSAGE_CHILDREN).ru_maxrss)
-PYTHON
+    python3 "$top/bench/shelf_memory.py" "$ours"
 }
 
 less=$(resident 1048576)

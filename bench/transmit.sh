@@ -4,37 +4,10 @@
 # The two take turns, and the best of RUNS runs (5) is taken.
 # Usage: bench/transmit.sh [RUNS]. Needs rt and python3.
 set -e
-top=$(cd "$(dirname "$0")/.." && pwd)
-scratch=$(mktemp -d)
-trap 'rm -rf "$scratch"' EXIT
-"$top/lritstation" - frames < /dev/null > "$scratch/build.log" 2>&1 || { cat "$scratch/build.log"; exit 1; }
-cp "$top/crates/lr_program/out/lr_program" "$scratch/lritstation"
+. "$(dirname "$0")/../trials/lib.sh"
+scratch_folder
+find_program
+cp "$LRITSTATION" "$scratch/lritstation"
 cd "$scratch"
 ./lritstation shelf trial 1 1024 0
-python3 - "${1:-5}" << 'PYTHON'
-import os, resource, subprocess, sys
-
-SYMBOLS = 16384
-COMMANDS = {
-    'make': ['./lritstation', '-', 'make', '1', '1024', '0'],
-    'transmit': ['./lritstation', 'shelf', 'transmit', '0', '1020', '0'],
-}
-
-
-def seconds(command):
-    """The processor time of a command, and how many frames of symbols it wrote."""
-    before = resource.getrusage(resource.RUSAGE_CHILDREN)
-    with open('symbols', 'wb') as symbols:
-        subprocess.run(command, stdout=symbols, check=True)
-    after = resource.getrusage(resource.RUSAGE_CHILDREN)
-    return after.ru_utime - before.ru_utime + after.ru_stime - before.ru_stime, os.path.getsize('symbols') // SYMBOLS
-
-
-best = {}
-for _ in range(int(sys.argv[1])):
-    for name, command in COMMANDS.items():
-        took, frames = seconds(command)
-        best[name] = min(best.get(name, 1e9), took / frames)
-        print(f'{name:9} {frames:5} frames {took:7.3f} s')
-print(f'make {best["make"] * 1e6:.1f} us a frame, transmit {best["transmit"] * 1e6:.1f}, the best of {sys.argv[1]} runs')
-PYTHON
+python3 "$top/bench/transmit.py" "${1:-5}"

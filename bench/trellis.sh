@@ -5,11 +5,10 @@
 # Usage: bench/trellis.sh [RUNS] [WINDOWS]. The best of RUNS runs (5) is taken, each of WINDOWS windows (1000). The
 # programs take turns, so that a load on the machine meets all of them. Needs rt and gcc.
 set -e
-top=$(cd "$(dirname "$0")/.." && pwd)
+. "$(dirname "$0")/../trials/lib.sh"
 runs=${1:-5}
 windows=${2:-1000}
-scratch=$(mktemp -d)
-trap 'rm -rf "$scratch"' EXIT
+scratch_folder
 (cd "$top/crates/lr_bench" && rt run -- path 1 > "$scratch/build.log" 2>&1) || { cat "$scratch/build.log"; exit 1; }
 cp "$top/crates/lr_bench/out/lr_bench" "$scratch/ours"
 gcc -O3 "$top/bench/trellis.c" -o "$scratch/c"
@@ -38,7 +37,7 @@ title() {
     esac
 }
 
-for run in $(seq "$runs"); do
+for _ in $(seq "$runs"); do
     for name in $names; do
         start=$(date +%s%N)
         line "$name" "$windows" > "$scratch/$name.line"

@@ -5,17 +5,16 @@
 # built and the processor has what it needs. Usage: bench/volk.sh [RUNS [FRAMES]]. They take turns, and the best of RUNS
 # runs (5) of FRAMES frames (8192) is taken. Needs rt, gcc and Debian's packages libvolk2-dev and libfec-dev.
 set -e
-top=$(cd "$(dirname "$0")/.." && pwd)
+. "$(dirname "$0")/../trials/lib.sh"
 runs=${1:-5}
 frames=${2:-8192}
-scratch=$(mktemp -d)
-trap 'rm -rf "$scratch"' EXIT
+scratch_folder
 if ! gcc -O3 "$top/bench/volk.c" -o "$scratch/volk" -lvolk -lfec 2> /dev/null; then
     echo "bench/volk.sh: skipped, as libvolk2-dev, libfec-dev or gcc is missing"
     exit 0
 fi
-"$top/lritstation" - frames < /dev/null > "$scratch/build.log" 2>&1 || { cat "$scratch/build.log"; exit 1; }
-program=$top/crates/lr_program/out/lr_program
+find_program
+program=$LRITSTATION
 programs=$program
 if [ -x "$program-v3" ] && /lib64/ld-linux-x86-64.so.2 --help | grep -q '^ *x86-64-v3 (supported'; then
     programs="$program $program-v3"
@@ -32,7 +31,7 @@ took() {
     awk '{ print $1 + $2 }' said >> "$name"
 }
 
-for run in $(seq "$runs"); do
+for _ in $(seq "$runs"); do
     took volk-times ./volk "$frames" 1
     cmp out frames
     for each in $programs; do

@@ -9,21 +9,16 @@
 # trials/beside.sh short: 2,000 calls, none of them slowed, in half a minute at most, as the gate has it. Needs rt and
 # python3, and but for `short` strace and the right to trace; without these nothing is tried, and the status is 77.
 # LRITSTATION names another program.
-top=$(cd "$(dirname "$0")/.." && pwd)
+. "$(dirname "$0")/lib.sh"
 calls=${1:-3000}
 plain=
 if [ "$calls" = short ]; then
     calls=2000 plain=plain
-elif ! strace -o /dev/null true 2> /dev/null; then
-    echo "trials/beside.sh: strace is missing, or may not trace, so nothing was tried"
-    exit 77
+else
+    strace -o /dev/null true 2> /dev/null || nothing "strace is missing, or may not trace"
 fi
-command -v python3 > /dev/null || { echo "trials/beside.sh: python3 is missing, so nothing was tried"; exit 77; }
-scratch=$(mktemp -d) || exit 1
-trap 'rm -rf "$scratch"' EXIT
-if [ -z "$LRITSTATION" ]; then
-    "$top/lritstation" - frames < /dev/null > "$scratch/build.log" 2>&1 || { cat "$scratch/build.log"; exit 1; }
-    LRITSTATION="$top/crates/lr_program/out/lr_program"
-fi
+needs python3
+scratch_folder
+find_program
 cp "$LRITSTATION" "$scratch/lritstation" || exit 1
 python3 "$top/trials/beside.py" "$scratch/lritstation" "$scratch" "$calls" $plain

@@ -2,10 +2,9 @@
 # Whether `documents.sh` finds what it looks for: a copy of all files is right, and the same copy with one planted fault
 # is not, for each of some faults. It says what wasn't found, and ends with 1 then. Usage: trials/documents-test.sh.
 # Needs python3; without it nothing is tried.
-top=$(cd "$(dirname "$0")/.." && pwd)
-command -v python3 > /dev/null || { echo "trials/documents-test.sh: python3 is missing, so nothing was tried"; exit 77; }
-scratch=$(mktemp -d) || exit 1
-trap 'rm -rf "$scratch"' EXIT
+. "$(dirname "$0")/lib.sh"
+needs python3
+scratch_folder
 (cd "$top" && tar --exclude=./.git --exclude=out -cf - .) | (cd "$scratch" && tar -xf -) || exit 1
 sh "$scratch/trials/documents.sh" > "$scratch/said" || { cat "$scratch/said"; exit 1; }
 faults=0

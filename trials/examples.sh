@@ -5,8 +5,8 @@
 # Usage: trials/examples.sh [PART..], by default all parts of its end. Needs python3, and rt where $LRITSTATION names no
 # built program; systemd-analyze, nanocat, shellcheck, and root for small disks, for some cases each.
 # shellcheck disable=SC2012,SC2013,SC2094 # (names are those that are made here; no file is read and written at once)
-top=$(cd "$(dirname "$0")/.." && pwd)
-command -v python3 > /dev/null || { echo "trials/examples.sh: python3 is missing, so nothing was tried"; exit 77; }
+. "$(dirname "$0")/lib.sh"
+needs python3
 small=
 clear_away() {
     [ -z "$small" ] || umount "$small"
@@ -16,27 +16,12 @@ clear_away() {
 scratch=$(mktemp -d) || exit 1
 trap clear_away EXIT
 trap 'exit 130' HUP INT TERM
-if [ -z "${LRITSTATION-}" ]; then
-    "$top/lritstation" - frames < /dev/null > "$scratch/build.log" 2>&1 || { cat "$scratch/build.log"; exit 1; }
-    LRITSTATION=$top/crates/lr_program/out/lr_program
-fi
-export LRITSTATION PYTHONDONTWRITEBYTECODE=1
+find_program
 mkdir -p "$scratch/in/side" "$scratch/tmp" && cd "$scratch/in/side" || exit 1
 examples=$top/examples
 python="python3 $top/trials/examples.py"
 long=$((100000 + $$)) # seconds: of programs that are to be ended, and told from those of other runs
 cases=0 skipped=0
-
-fail() {
-    echo "trials/examples.sh: $1"
-    exit 1
-}
-
-# is WHAT GOT WANTED
-is() {
-    [ "$2" = "$3" ] || fail "$1 is '$2', not '$3'"
-    cases=$((cases + 1))
-}
 
 # ends WHAT STATUS WORDS: a program ends so, and says something in `out` and `err`
 ends() {
@@ -684,10 +669,9 @@ verify_units() {
 
 try_form() {
     lacks shellcheck "the scripts were only run" && return
-    ends "shellcheck" 0 shellcheck --external-sources "$top/lritstation" "$top/packaging/lritstation" \
-        "$top/packaging/debian.sh" "$top/packaging/archive.sh" "$top/packaging/arm64.sh" "$top/packaging/library.sh" \
-        "$top/packaging/web.sh" "$top/trials/arm64.sh" "$top/trials/library.sh" "$top/trials/web.sh" \
-        "$top/packaging/upgrade.sh" "$examples/bundle.sh" "$examples/cadu.sh" "$examples/roll.sh" "$examples/station.sh"
+    # (common.sh, proving.sh and others that are only read are checked with the scripts that read them)
+    ends "shellcheck" 0 shellcheck -x "$top/lritstation" "$top/packaging/lritstation" "$top/.ci/run" \
+        "$top"/packaging/[adluw]*.sh "$examples"/[!c]*.sh "$examples/cadu.sh" "$top"/bench/*.sh "$top"/trials/*.sh
 }
 
 parts="days weeks full_shelves full_disk bundle ways_in station station_of_frames signals wrapper words processors

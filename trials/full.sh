@@ -6,22 +6,13 @@
 # with 5, with the shelf's bytes unchanged, or of `receive` with the acknowledged files on it. It takes some ten
 # seconds, or as the disk syncs. What needs a tool that is missing is skipped, with a word.
 # Usage: trials/full.sh. Needs rt.
-top=$(cd "$(dirname "$0")/.." && pwd)
+. "$(dirname "$0")/lib.sh"
 scratch=$(mktemp -d) || exit 1
 mounted=
 trap '[ -z "$mounted" ] || umount "$mounted"; rm -rf "$scratch"' EXIT
-if [ -z "${LRITSTATION-}" ]; then
-    "$top/lritstation" - frames < /dev/null > "$scratch/build.log" 2>&1 || { cat "$scratch/build.log"; exit 1; }
-    LRITSTATION=$top/crates/lr_program/out/lr_program
-fi
+find_program
 station=$LRITSTATION
 cd "$scratch" || exit 1
-cases=0
-
-fail() {
-    echo "trials/full.sh: $1"
-    exit 1
-}
 
 "$station" - make 1 64 0 > stream || fail "make"
 
@@ -100,6 +91,7 @@ outputs() {
 }
 [ -w /dev/full ] || echo "/dev/full is missing: no full output was tried"
 for words in list verify "show 7" "extract 7"; do
+    # shellcheck disable=SC2086 # (they are several)
     outputs /dev/null $words
     cmp -s shelf before || fail "$words changed the shelf"
 done

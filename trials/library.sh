@@ -6,23 +6,11 @@
 # Usage: trials/library.sh. Needs rt, python3, and a C compiler; for arm64 qemu, gcc for arm64 and the packages that
 # packaging/library.sh names, and says so where one is missing. $LRITSTATION may name the built program, and $LIBRARY
 # and $LIBRARY_ARM64 the folders of libraries that packaging/library.sh made, which are then not made.
-top=$(cd "$(dirname "$0")/.." && pwd)
-for tool in python3 cc; do
-    command -v $tool > /dev/null || { echo "trials/library.sh: $tool is missing, so nothing was tried"; exit 77; }
-done
-scratch=$(mktemp -d) || exit 1
-trap 'rm -rf "$scratch"' EXIT
-trap 'exit 130' HUP INT TERM
+. "$(dirname "$0")/lib.sh"
+needs python3 cc
+scratch_folder
 
-fail() {
-    echo "trials/library.sh: $1"
-    exit 1
-}
-
-if [ -z "${LRITSTATION-}" ]; then
-    "$top/lritstation" - frames < /dev/null > "$scratch/build.log" 2>&1 || fail "$(cat "$scratch/build.log")"
-    LRITSTATION=$top/crates/lr_program/out/lr_program
-fi
+find_program
 
 # made ARCHITECTURE: makes its library as $scratch/ARCHITECTURE, twice
 made() {

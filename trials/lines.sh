@@ -5,10 +5,9 @@
 # have no fewer of its own.
 # Usage: trials/lines.sh. Needs rt and python3.
 set -e
-top=$(cd "$(dirname "$0")/.." && pwd)
-if ! command -v aec > /dev/null; then echo "aec isn't installed: nothing was tried"; exit 77; fi
-scratch=$(mktemp -d)
-trap 'rm -rf "$scratch"' EXIT
+. "$(dirname "$0")/lib.sh"
+needs aec
+scratch_folder
 (cd "$top/crates/lr_bench" && rt run -- none 1 > "$scratch/build.log" 2>&1) || { cat "$scratch/build.log"; exit 1; }
 draw="python3 $top/reference/lines.py"
 failed=0

@@ -2,13 +2,9 @@
 # The program on real paths: which status it ends with, what it prints, and what is then there. The run ends with the
 # first case that isn't as wanted. Cases that need a tool which is missing are skipped, with a word.
 # Usage: trials/main.sh. Needs rt; python3 for one case, and root with losetup for another.
-top=$(cd "$(dirname "$0")/.." && pwd)
-scratch=$(mktemp -d) || exit 1
-trap 'rm -rf "$scratch"' EXIT
-if [ -z "${LRITSTATION-}" ]; then
-    "$top/lritstation" - frames < /dev/null > "$scratch/build.log" 2>&1 || { cat "$scratch/build.log"; exit 1; }
-    LRITSTATION=$top/crates/lr_program/out/lr_program
-fi
+. "$(dirname "$0")/lib.sh"
+scratch_folder
+find_program
 station=$LRITSTATION
 cd "$scratch" || exit 1
 cases=0 skipped=0
@@ -23,16 +19,11 @@ ends() {
     cases=$((cases + 1))
 }
 
-fail() {
-    echo "trials/main.sh: $1"
-    exit 1
-}
-
 # prints TEXT: these are the bytes in `out`
-prints() { printf "$1" > wanted; cmp -s out wanted || fail "printed '$(cat out)', not '$(cat wanted)'"; }
+prints() { printf '%b' "$1" > wanted; cmp -s out wanted || fail "printed '$(cat out)', not '$(cat wanted)'"; }
 
 # says TEXT: the same of `err`
-says() { printf "$1" > wanted; cmp -s err wanted || fail "said '$(cat err)', not '$(cat wanted)'"; }
+says() { printf '%b' "$1" > wanted; cmp -s err wanted || fail "said '$(cat err)', not '$(cat wanted)'"; }
 
 : > in
 

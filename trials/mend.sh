@@ -8,20 +8,10 @@
 # with a Debian system that has SatDump, as for satdump.sh. Then SatDump gets the frames of twenty drawings of each rate
 # too, by chroot, so as root and with Pillow: how many lines of its pictures stand in their place. With another program
 # in LRITSTATION it is that one's.
-top=$(cd "$(dirname "$0")/.." && pwd)
-scratch=$(mktemp -d) || exit 1
-trap 'rm -rf "$scratch"' EXIT
-if [ -z "${LRITSTATION-}" ]; then
-    "$top/lritstation" - frames < /dev/null > "$scratch/log" 2>&1 || { cat "$scratch/log"; exit 1; }
-    LRITSTATION=$top/crates/lr_program/out/lr_program
-fi
-export LRITSTATION
+. "$(dirname "$0")/lib.sh"
+scratch_folder
+find_program
 cd "$scratch" || exit 1
-
-fail() {
-    echo "trials/mend.sh: $1"
-    exit 1
-}
 
 # ---- six frames of the sample
 python3 "$top/tools/bin/gomtasil" sample > frames || fail "sample"

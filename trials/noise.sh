@@ -5,25 +5,13 @@
 # and the shelf must stay empty.
 # Usage: trials/noise.sh [SYMBOLS] (86,400,000,000, which are 24 hours at a million symbols a second). It takes some ten
 # seconds for each thousand million symbols, or as long as /dev/urandom takes for them. Needs rt, and Linux for /proc.
-top=$(cd "$(dirname "$0")/.." && pwd)
+. "$(dirname "$0")/lib.sh"
 symbols=${1:-86400000000}
-if [ ! -r /proc/self/status ] || [ ! -r /dev/urandom ]; then
-    echo "/proc or /dev/urandom is missing: no noise was tried"
-    exit 77
-fi
-scratch=$(mktemp -d) || exit 1
-trap 'rm -rf "$scratch"' EXIT
-if [ -z "${LRITSTATION-}" ]; then
-    "$top/lritstation" - frames < /dev/null > "$scratch/build.log" 2>&1 || { cat "$scratch/build.log"; exit 1; }
-    LRITSTATION=$top/crates/lr_program/out/lr_program
-fi
+{ [ -r /proc/self/status ] && [ -r /dev/urandom ]; } || nothing "/proc or /dev/urandom is missing"
+scratch_folder
+find_program
 station=$LRITSTATION
 cd "$scratch" || exit 1
-
-fail() {
-    echo "trials/noise.sh: $1"
-    exit 1
-}
 
 "$station" shelf init 1000000 > out || fail "init"
 mkfifo noise

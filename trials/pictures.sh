@@ -3,16 +3,10 @@
 # nothing is tried) says of each PGM which size and which greatest pixel it has, and reads its pixels, which are those
 # that were sent.
 # Usage: trials/pictures.sh. Needs rt and python3.
-top=$(cd "$(dirname "$0")/.." && pwd)
-for tool in pnmfile pamtable pnmsplit; do
-    command -v $tool > /dev/null || { echo "$tool isn't installed: nothing was tried"; exit 77; }
-done
-scratch=$(mktemp -d) || exit 1
-trap 'rm -rf "$scratch"' EXIT
-if [ -z "${LRITSTATION-}" ]; then
-    "$top/lritstation" - frames < /dev/null > "$scratch/build.log" 2>&1 || { cat "$scratch/build.log"; exit 1; }
-    LRITSTATION=$top/crates/lr_program/out/lr_program
-fi
+. "$(dirname "$0")/lib.sh"
+needs pnmfile pamtable pnmsplit
+scratch_folder
+find_program
 station=$LRITSTATION
 draw="python3 $top/trials/pictures.py"
 cd "$scratch" || exit 1

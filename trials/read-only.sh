@@ -4,15 +4,13 @@
 # ends with 1 and prints nothing, and so does any over a missing shelf in a folder that may not be written.
 # Usage: trials/read-only.sh. Needs rt, and root with setpriv for the other user, and mkfs.ext4 and a loop device for
 # the file system; what is missing is skipped, with a word. LRITSTATION names another program to try.
-top=$(cd "$(dirname "$0")/.." && pwd)
-[ "$(id -u)" = 0 ] && command -v setpriv > /dev/null || { echo "trials/read-only.sh: this needs root and setpriv, so nothing was tried"; exit 77; }
+. "$(dirname "$0")/lib.sh"
+needs setpriv
+[ "$(id -u)" = 0 ] || nothing "this needs root"
 scratch=$(mktemp -d) || exit 1
 mounted=
 trap '[ -z "$mounted" ] || umount "$mounted"; rm -rf "$scratch"' EXIT
-if [ -z "$LRITSTATION" ]; then
-    "$top/lritstation" - frames < /dev/null > "$scratch/build.log" 2>&1 || { cat "$scratch/build.log"; exit 1; }
-    LRITSTATION="$top/crates/lr_program/out/lr_program"
-fi
+find_program
 mkdir "$scratch/shelves" && cp "$LRITSTATION" "$scratch/lritstation" || exit 1
 chmod 755 "$scratch" "$scratch/shelves" "$scratch/lritstation"
 program=$scratch/lritstation

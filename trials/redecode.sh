@@ -5,13 +5,8 @@
 # Usage: trials/redecode.sh [FRAMES [ROOT]], by default 3,000 a step. Ten minutes. Needs rt and python3. ROOT is a
 # folder with a Debian system that has SatDump, as for satdump.sh; then it runs as root. With another program in
 # LRITSTATION it is that one's.
-top=$(cd "$(dirname "$0")/.." && pwd)
-scratch=$(mktemp -d) || exit 1
-trap 'rm -rf "$scratch"' EXIT
-if [ -z "${LRITSTATION-}" ]; then
-    "$top/lritstation" - frames < /dev/null > "$scratch/log" 2>&1 || { cat "$scratch/log"; exit 1; }
-    LRITSTATION=$top/crates/lr_program/out/lr_program
-fi
-export LRITSTATION
+. "$(dirname "$0")/lib.sh"
+scratch_folder
+find_program
 python3 "$top/trials/redecode.py" "$scratch" --frames "${1:-3000}" ${2:+--satdump "$2"} || exit 1
 echo "trials/redecode.sh: passed"

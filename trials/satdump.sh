@@ -7,18 +7,12 @@
 # Usage: trials/satdump.sh ROOT. ROOT is a folder with a Debian system that has SatDump, as
 #   mmdebstrap --variant=apt --include=satdump trixie ROOT
 # makes it; chroot enters it, so this runs as root. Without a ROOT nothing is tried. Needs rt and python3.
-top=$(cd "$(dirname "$0")/.." && pwd)
+. "$(dirname "$0")/lib.sh"
 root=$1
-if [ -z "$root" ]; then
-    echo "trials/satdump.sh: skipped, as no folder with SatDump is named"
-    exit 77
-fi
-scratch=$(mktemp -d "$root/tmp/satdump-trial.XXXXXX") || exit 1
-trap 'rm -rf "$scratch"' EXIT
-if [ -z "${LRITSTATION-}" ]; then
-    "$top/lritstation" - frames < /dev/null > "$scratch/build.log" 2>&1 || { cat "$scratch/build.log"; exit 1; }
-    LRITSTATION=$top/crates/lr_program/out/lr_program
-fi
+[ -n "$root" ] || nothing "no folder with SatDump is named"
+within=$root/tmp
+scratch_folder
+find_program
 station=$LRITSTATION
 cd "$scratch" || exit 1
 

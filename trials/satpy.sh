@@ -6,26 +6,11 @@
 # their names, and reads GOES's image from its GeoTIFF.
 # Usage: trials/satpy.sh. Needs rt, or LRITSTATION set to the built program, and python3 with satpy (Debian's package
 # python3-satpy); without it nothing is tried.
-top=$(cd "$(dirname "$0")/.." && pwd)
-python=
-for one in python3 /usr/bin/python3; do
-    [ -n "$python" ] || { "$one" -c 'import satpy' 2> /dev/null && python=$one; }
-done
-[ -n "$python" ] || { echo "trials/satpy.sh: satpy is missing, so nothing was tried"; exit 77; }
-scratch=$(mktemp -d) || exit 1
-trap 'rm -rf "$scratch"' EXIT
-trap 'exit 130' HUP INT TERM
-if [ -z "${LRITSTATION-}" ]; then
-    "$top/lritstation" - frames < /dev/null > "$scratch/build.log" 2>&1 || { cat "$scratch/build.log"; exit 1; }
-    LRITSTATION=$top/crates/lr_program/out/lr_program
-fi
-export LRITSTATION PYTHONDONTWRITEBYTECODE=1
+. "$(dirname "$0")/lib.sh"
+python_with satpy || nothing "satpy is missing"
+scratch_folder
+find_program
 cd "$scratch" || exit 1
-
-fail() {
-    echo "trials/satpy.sh: $1"
-    exit 1
-}
 
 mkdir drawn && "$python" "$top/trials/satellites.py" draw drawn > frames || fail "satellites.py"
 "$LRITSTATION" sent.shelf init 20000000 > log || fail "init"

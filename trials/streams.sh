@@ -2,14 +2,10 @@
 # The program with standard input, output and error closed, over a real file: a stream that was closed fails, and the
 # shelf stays as it was. Usage: trials/streams.sh. Needs rt.
 set -e
-top=$(cd "$(dirname "$0")/.." && pwd)
-scratch=$(mktemp -d)
-trap 'rm -rf "$scratch"' EXIT
+. "$(dirname "$0")/lib.sh"
+scratch_folder
 cd "$scratch"
-if [ -z "${LRITSTATION-}" ]; then
-    "$top/lritstation" - frames < /dev/null > build.log 2>&1 || { cat build.log; exit 1; }
-    LRITSTATION=$top/crates/lr_program/out/lr_program
-fi
+find_program
 program=$LRITSTATION
 failed=0
 

@@ -11,23 +11,15 @@
 # - Of frames and blocks nothing comes after the last one, and no file waits either.
 #
 # Usage: trials/waits.sh [TIMES]. A minute or two. Needs rt. With another program in LRITSTATION it is that one's.
-top=$(cd "$(dirname "$0")/.." && pwd)
+. "$(dirname "$0")/lib.sh"
 scratch=$(mktemp -d) || exit 1
 receiver=
 trap 'exec 3>&-; [ -z "$receiver" ] || kill "$receiver" 2> /dev/null; rm -rf "$scratch"' EXIT
-if [ -z "${LRITSTATION-}" ]; then
-    "$top/lritstation" - frames < /dev/null > "$scratch/build.log" 2>&1 || { cat "$scratch/build.log"; exit 1; }
-    LRITSTATION=$top/crates/lr_program/out/lr_program
-fi
+find_program
 station=$LRITSTATION
 times=${1:-50}
 frame=16384
 cd "$scratch" || exit 1
-
-fail() {
-    echo "trials/waits.sh: $1"
-    exit 1
-}
 
 # at_once, in_pieces: puts what stands in the file `given` into the FIFO
 at_once() { cat given; }
