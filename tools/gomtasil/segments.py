@@ -98,6 +98,7 @@ class Part(NamedTuple):
     mark: bytes
     segment: Segment | None
     mended: xrit.Mended | None
+    origin: tuple[bytes | None, bytes]  # the record of its time stamp, and its annotation
 
 
 @dataclass
@@ -156,13 +157,15 @@ class Group:
         return "; ".join(words)
 
     def add(self, part: Part) -> bool:
-        """Takes a file. False where it belongs to another picture, as this one has its number already. A segment that
-        is whole takes the place of a mended one."""
+        """Takes a file. False where it belongs to another picture, as this one has its number already. Of a mended
+        segment and a whole one with the same time stamp and annotation the whole one is kept."""
         for place, old in enumerate(self.parts):
             if old.segment and part.segment and old.segment.number == part.segment.number:
-                if old.mended and not part.mended:
+                if old.origin != part.origin or bool(old.mended) == bool(part.mended):
+                    return False
+                if old.mended:
                     self.parts[place] = part
-                return bool(old.mended) != bool(part.mended)
+                return True
         self.parts.append(part)
         return True
 
@@ -180,7 +183,8 @@ def groups_of(
             groups.append(head)
             continue
         segment = segment_of(file)
-        part = Part(head, shelf.mark(head), segment, file.header.mended)
+        origin = file.header.first(xrit.STAMP_KIND), file.header.annotation
+        part = Part(head, shelf.mark(head), segment, file.header.mended, origin)
         group = opened.get(segment.key) if segment else None
         if not group or not group.add(part):
             group = Group(shortened(file), texts.name_of(file), [part])

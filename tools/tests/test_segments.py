@@ -25,6 +25,8 @@ def records_of(file: Any) -> Any:
         found.append(planned(band, number, first, last, craft, form))
     if "record" in file:
         found.append(record(128, bytes.fromhex(file["record"])))
+    if "stamp" in file:
+        found.append(record(5, xrit.STAMP.pack(xrit.STAMP_FORM, 25000, file["stamp"])))
     if file.get("encrypted"):
         found.append(record(7, b"\1"))
     if "text" in file:

@@ -13,7 +13,11 @@ const MOST_RUNS = 20; // of missing numbers that are told
 /**
  * @typedef {import('./shelf.mjs').StoredFile} StoredFile
  * @typedef {import('./xrit.mjs').Mended} Mended
- * @typedef {{number: number, segment: Segment | null, mended: Mended | null}} Part number: that of the file
+ * @typedef {object} Part
+ * @property {number} number that of the file
+ * @property {Segment | null} segment
+ * @property {Mended | null} mended
+ * @property {string} origin the record of its time stamp, and its annotation
  * @typedef {object} Segment which part of which picture a file is
  * @property {string} key the same for all segments of a picture
  * @property {number} number from 0
@@ -146,18 +150,18 @@ export class Group {
   }
 
   /**
-   * Takes a file. False where it belongs to another picture, as this one has its number already. A segment that is whole
-   * takes the place of a mended one.
+   * Takes a file. False where it belongs to another picture, as this one has its number already. Of a mended segment and
+   * a whole one with the same time stamp and annotation the whole one is kept.
    * @param {Part} part
    * @returns {boolean}
    */
   add(part) {
-    const { segment, mended } = part;
+    const { segment, mended, origin } = part;
     const place = segment ? this.parts.findIndex((it) => it.segment?.number === segment.number) : -1;
     const old = this.parts[place];
     if (!old) this.parts.push(part);
-    else if (old.mended && !mended) this.parts[place] = part;
-    else return Boolean(mended && !old.mended);
+    else if (old.origin !== origin || Boolean(old.mended) === Boolean(mended)) return false;
+    else if (old.mended) this.parts[place] = part;
     return true;
   }
 }
@@ -178,7 +182,9 @@ export class Groups {
    */
   add(file) {
     const segment = segmentOf(file);
-    const part = { number: file.number, segment, mended: file.header && mendedOf(file.header) };
+    const { number, header } = file;
+    const origin = String([KINDS.stamp, KINDS.annotation].map((kind) => header && firstOf(header, kind)?.join(' ')));
+    const part = { number, segment, mended: header && mendedOf(header), origin };
     const opened = segment && this.opened.get(segment.key);
     if (opened && opened.add(part)) return opened;
     const group = new Group(this.all.length, file);

@@ -55,6 +55,7 @@ function recordsOf(file) {
     found.push(record(128, [...big(craft, 2), channel, ...[number, first, last].flatMap((it) => big(it, 2)), form]));
   }
   if (file.record) found.push(record(128, [...Buffer.from(file.record, 'hex')]));
+  if (file.stamp) found.push(record(5, [0x40, ...big(25000, 2), ...big(file.stamp, 4)]));
   if (file.encrypted) found.push(record(7, [1]));
   if (file.text) found.push(record(6, bytesOf(file.text)));
   return found;
