@@ -146,6 +146,7 @@ def do_pictures(words: Words) -> int:
         words.quiet,
         finish,
         tuple(words.loop),
+        words.fill,
     )
     return pictures.draw(words.shelf, words.folder, wishes)
 
@@ -343,6 +344,7 @@ def add_pictures(command: Command) -> None:
     kept = "the same, and remove a day's folder once N later days have pictures"
     add(it, "--keep-days N", kept, type=count)
     add(it, "--whole", "leave out images that lack segments")
+    add(it, "--fill", "also draw lost lines from those around them, for a viewer, as NAME-filled.png")
     looped = "also write the newest whole pictures as a loop, e.g. '*C13*=c13.gif'; .png is animated (repeatable)"
     add(it, "--loop PATTERN=FILE", looped, type=value(loops.Loop.of), action="append")
     add(it, "--no-latest", "don't write the folder `latest`")

@@ -279,15 +279,18 @@ def grey_of(picture: Picture) -> Image:
     return levels_of(image_of(picture))
 
 
-def png_of(picture: Picture, level: int = PNG_LEVEL) -> bytes:
+def png_of(picture: Picture, level: int = PNG_LEVEL, comment: str = "") -> bytes:
     """The bytes of a PNG. Where pixels are scaled, sBIT says how many bits they had."""
-    return png_of_image(image_of(picture), 0 if picture.bits in (BYTE_BITS, WORD_BITS) else picture.bits, level)
+    significant = 0 if picture.bits in (BYTE_BITS, WORD_BITS) else picture.bits
+    return png_of_image(image_of(picture), significant, level, comment)
 
 
-def png_of_image(image: Image, significant: int = 0, level: int = PNG_LEVEL) -> bytes:
+def png_of_image(image: Image, significant: int = 0, level: int = PNG_LEVEL, comment: str = "") -> bytes:
     from PIL import PngImagePlugin
 
     notes = PngImagePlugin.PngInfo()
+    if comment:
+        notes.add_text("Comment", comment)
     if significant:
         notes.add(b"sBIT", bytes([significant]))
     strategy = {"compress_type": RUN_LENGTHS} if level == FAST_PNG_LEVEL else {}
@@ -315,10 +318,10 @@ def scaled(image: Image, most: int) -> Image:
     return small.resize((width, height), Image.Resampling.LANCZOS)
 
 
-def jpeg_of(image: Image, most: int, quality: int = 75) -> bytes:
+def jpeg_of(image: Image, most: int, quality: int = 75, comment: str = "") -> bytes:
     """The bytes of a JPEG with at most this many columns and lines."""
     from PIL import Image
 
     small = image.convert("L" if image.mode in ("1", "L", "I;16") else "RGB")
     small.thumbnail((most, most), Image.Resampling.LANCZOS)
-    return written(small, "JPEG", quality=quality)
+    return written(small, "JPEG", quality=quality, **({"comment": comment} if comment else {}))

@@ -3,7 +3,9 @@ name of the shelf, and the file's number there. JPEG, GIF and PNG images stay as
 by any of three forms of record, and so are strips of JPEG. If segments are missing, their places are black and the name
 ends in -lacks-COUNT; if packets of a file were missing, in -mended-COUNT. A later run that finds more draws such a
 picture again. All other pictures that exist are left as they are, whatever the options. The newest picture of each kind
-is also latest/KIND.png. --loop draws the newest whole pictures of a kind one after another.
+is also latest/KIND.png. --loop draws the newest whole pictures of a kind one after another. --fill also draws each
+picture that lacks something as NAME-filled.png, with its lost lines drawn from the received ones above and below them;
+a comment in the file says how many lines those are.
 """
 
 from __future__ import annotations
@@ -14,7 +16,7 @@ from collections.abc import Iterator, Sequence
 from dataclasses import dataclass, replace
 from typing import TYPE_CHECKING, NamedTuple
 
-from . import colours, days
+from . import colours, days, fill
 from . import folder as folders
 from . import geo, images, loops, overlay, products, program, segments
 from . import shelf as shelves
@@ -85,8 +87,10 @@ class Finish:
             image = images.scaled(image, self.scale)
         return image
 
-    def bytes_of(self, image: Image) -> bytes:
-        return images.jpeg_of(image, max(image.size), self.jpeg) if self.jpeg else images.png_of_image(image)
+    def bytes_of(self, image: Image, comment: str = "") -> bytes:
+        if self.jpeg:
+            return images.jpeg_of(image, max(image.size), self.jpeg, comment)
+        return images.png_of_image(image, comment=comment)
 
     @property
     def ending(self) -> str:
@@ -107,6 +111,7 @@ class Wishes:
     is_quiet: bool = False
     finish: Finish = Finish()
     loops: tuple[loops.Loop, ...] = ()
+    is_filled: bool = False  # also draw lost lines from those around them
 
 
 class Drawn(NamedTuple):
@@ -180,6 +185,8 @@ class Drawer:
         drawn = [Drawn(name, it) for it in groups if (name := self.standing(self.name_of(it)))]
         for it in drawn:
             self.enhance(it)
+            if self.wishes.is_filled and (it.group.missing or it.group.mended):
+                self.fill(it)
         self.forget(drawn)
         return drawn
 
@@ -197,7 +204,7 @@ class Drawer:
         self.put(self.name_of(group) + ending, file.data)
         return True
 
-    def put_finished(self, name: str, group: Group, image: Image) -> None:
+    def put_finished(self, name: str, group: Group, image: Image, comment: str = "") -> None:
         """Processes a picture and writes it."""
         finish = self.wishes.finish
         placement = None
@@ -206,7 +213,7 @@ class Drawer:
                 placement = geo.group_placement(self.shelf, group)
             except shelves.ShelfError as fault:
                 program.tell(f"{name}: no coasts: {fault}")
-        self.put(name + finish.ending, finish.bytes_of(finish.image_of(image, placement)))
+        self.put(name + finish.ending, finish.bytes_of(finish.image_of(image, placement), comment))
 
     def put(self, name: str, data: bytes) -> None:
         try:
@@ -228,6 +235,26 @@ class Drawer:
                 name = names.get(less["stem"]) if less else None
                 if name and not re.fullmatch(re.escape(name) + ENDING, other):
                     os.unlink(self.full(other))
+
+    # ---- lost lines
+
+    def fill(self, drawn: Drawn) -> None:
+        """Draws a picture with its lost lines filled, if that isn't there."""
+        stem = os.path.splitext(drawn.name)[0] + "-filled"
+        if os.path.exists(self.full(stem + self.wishes.finish.ending)):
+            return
+        picture, mask = images.group_picture(self.shelf, drawn.group), fill.received(self.shelf, drawn.group)
+        if not picture or not mask:
+            return
+        whole, lines = fill.filled(picture, mask)
+        comment = f"{lines} lines of {picture.lines} were lost, and are drawn from the lines around them"
+        if not lines:
+            return
+        program.tell(f"{stem}: {comment}")
+        if self.wishes.finish.is_plain:
+            self.put(stem + ".png", images.png_of(whole, comment=comment))
+        else:
+            self.put_finished(stem, drawn.group, images.grey_of(whole), comment)
 
     # ---- colours
 

@@ -25,6 +25,7 @@ VERSIONS = (1, 2)
 HEADER_BYTES = 19
 FIRST_GATE = HEADER_BYTES
 CHECKSUM_BYTES = 2
+LENGTH_BYTES = 2  # of a body's length
 CHECKSUM_BEGIN = 0xFFFF
 
 # ---- gates and items
@@ -108,6 +109,13 @@ class StoredFile:
     @cached_property
     def header(self) -> xrit.Header:
         return xrit.header_of(self.proper)
+
+    @property
+    def lengths(self) -> list[int]:
+        """Those of its bodies."""
+        end = len(self.item) - CHECKSUM_BYTES - self.fields.size
+        places = range(end - LENGTH_BYTES * self.fields.packets, end, LENGTH_BYTES)
+        return [int.from_bytes(self.item[at : at + LENGTH_BYTES], "big") for at in places]
 
     @property
     def data(self) -> bytes:

@@ -133,24 +133,45 @@ class Header(NamedTuple):
     @property
     def mended(self) -> Mended | None:
         """What the last record of that text says, or None where no packet was missing."""
-        texts = [contents for kind, contents in self.records if kind == TEXT_KIND]
-        found = [mended for mended in map(mended_of, texts) if mended]
+        found = [mended for mended in map(mended_of, self.texts) if mended]
         return found[-1] if found else None
 
+    @property
+    def fillers(self) -> list[range]:
+        """The places of the packets that stand in, by the same record."""
+        found = [it for it in map(fillers_of, self.texts) if it]
+        return found[-1][0] if found else []
 
-def mended_of(text: bytes) -> Mended | None:
-    """What a text says that names the places of the packets which stand in, such as `gomtasil mended 2 8-9 of 13`."""
+    @property
+    def texts(self) -> list[bytes]:
+        return [contents for kind, contents in self.records if kind == TEXT_KIND]
+
+    @property
+    def lines_per_packet(self) -> int:
+        """Of lines that are coded without loss; 0 where no record says it."""
+        found = [contents for kind, contents in self.records if is_lossless_record(kind, contents)]
+        return found[0][3] if found else 0
+
+
+def fillers_of(text: bytes) -> tuple[list[range], int] | None:
+    """The places of the packets that stand in by such a text as `gomtasil mended 2 8-9 of 13`, and how many packets
+    there are."""
     match = MENDED.fullmatch(text)
     if not match:
         return None
-    packets, before, fillers = int(match[2]), -1, 0
+    packets, runs = int(match[2]), [range(0)]
     for run in match[1].split():
         first, _, last = run.partition(b"-")
-        begin, end = int(first), int(last or first)
-        if not before < begin <= end < packets:
+        runs.append(range(int(first), int(last or first) + 1))
+        if not runs[-2].stop <= runs[-1].start < runs[-1].stop <= packets:
             return None
-        before, fillers = end, fillers + end - begin + 1
-    return Mended(fillers, packets) if fillers <= MOST_FILLERS else None
+    return (runs[1:], packets) if sum(map(len, runs)) <= MOST_FILLERS else None
+
+
+def mended_of(text: bytes) -> Mended | None:
+    """How many these are."""
+    found = fillers_of(text)
+    return Mended(sum(map(len, found[0])), found[1]) if found else None
 
 
 def is_lossless_record(kind: int, contents: bytes) -> bool:

@@ -5,7 +5,7 @@ import os
 import re
 from typing import Any
 
-from gomtasil import xrit
+from gomtasil import fill, shelf, xrit
 
 from .support import (
     Case,
@@ -13,6 +13,7 @@ from .support import (
     added,
     big,
     children_seconds,
+    content,
     image,
     needs_pillow,
     needs_program,
@@ -389,3 +390,61 @@ class Coded(Case):
         for path, data in taken("damaged").items():
             number = int(path.split("@")[0][1:])
             self.assertEqual(bytes(pixels_of_png(data)[4]), plain[number][-1200:])
+
+
+def lined(levels: Any, columns: Any) -> bytes:
+    return b"".join(bytes([it] * columns) for it in levels)
+
+
+@needs_pillow
+class Filled(Case):
+    """Lost lines are drawn from the lines around them, in a picture of its own that says so."""
+
+    def drawn(self, *items: Any) -> Any:
+        write("f.shelf", shelf_of(items))
+        out, said = self.call("pictures", "f.shelf", "drawn", "--fill")
+        return out.splitlines(), said, {name: list(pixels_of_png(data)[4]) for name, data in taken("drawn").items()}
+
+    def test_lines_of_packets_that_stand_in(self) -> None:
+        data = lined([10, 10, 20, 20, 0, 0, 0, 0, 60, 60, 9, 0], 7)
+        whole = content(0, image(8, 7, 12, data, 0, [record(4, b"EARTH"), mended(b"5-8 12 of 13")]))
+        bodies = [whole[: -len(data)], *(data[at : at + 7] for at in range(0, len(data), 7))]
+        names, said, found = self.drawn(reference.add((1, 100, bodies), (0, 0, 0)))
+        self.assertEqual(names, ["EARTH@f.0-mended-5.png", "EARTH@f.0-mended-5-filled.png"])
+        self.assertEqual(found[names[0]], list(data))
+        wanted = [10, 10, 20, 20, 28, 36, 44, 52, 60, 60, 9, 9]
+        self.assertEqual(found[names[1]], list(lined(wanted, 7)))
+        self.assertIn("5 lines of 12 were lost, and are drawn from the lines around them", said)
+        self.assertIn(b"Comment\0005 lines of 12 were lost", read(f"drawn/{names[1]}"))
+
+    def test_segments_and_tiles_that_are_missing(self) -> None:
+        # (of a picture of four by five, the middle line is missing, and the right half of the last two)
+        places = [(0, 0, 0, [8, 8] * 4), (3, 3, 0, [40] * 4)]
+        items = []
+        for number, top, left, values in places:
+            more = [record(4, b"T"), noaa(1, number, top, 4, 4, 5, left)]
+            items.append(added(number, image(8, len(values) // 2, 2, bytes(values), 0, more)))
+        names, _, found = self.drawn(*items)
+        self.assertEqual(names, ["T@f.0-lacks-2.png", "T@f.0-lacks-2-filled.png"])
+        self.assertEqual(found[names[0]], [8] * 8 + [0] * 4 + [40, 40, 0, 0] * 2)
+        self.assertEqual(found[names[1]], [8] * 8 + [24, 24, 8, 8] + [40, 40, 8, 8] * 2)
+
+    def test_two_bytes_a_pixel_and_pictures_that_lack_nothing(self) -> None:
+        levels = {0: 300, 2: 900}
+        parts = [image(10, 2, 1, packed_bits([it] * 2, 10), 0, [noaa(1, n, n, 3, 2, 3)]) for n, it in levels.items()]
+        whole = image(8, 2, 1, b"ab", 0, [record(4, b"WHOLE")])
+        names, _, found = self.drawn(*(added(it, file) for it, file in enumerate([*parts, whole])))
+        self.assertEqual(names, ["image@f.0-lacks-1.png", "WHOLE@f.2.png", "image@f.0-lacks-1-filled.png"])
+        self.assertEqual(found[names[2]][2:4], [600 * 65535 // 1023] * 2)
+
+    def test_lines_that_are_coded(self) -> None:
+        code = record(131, b"\0\x20\x10\x04")  # four lines in a packet
+        for words, ends, wanted in (
+            (b"2 4 of 6", [0] * 6, [range(4, 8), range(12, 16)]),  # the first packet has the header alone
+            (b"2 4 of 6", [9] * 6, [range(8, 12), range(16, 18)]),
+            (b"7 of 9", [0] * 6, []),
+        ):
+            whole = content(0, image(8, 7, 18, b"", 1, [code, mended(words)]))
+            item = reference.add((1, 100, [whole + bytes(ends[0]), *map(bytes, ends[1:])]), (0, 0, 0))
+            file = shelf.file_of(shelf.Head(19, len(item), 0, False), item)
+            self.assertEqual(fill.lost_lines(file), wanted, words)
