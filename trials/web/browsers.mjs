@@ -67,6 +67,7 @@ export class Chromium extends Browser {
   name = 'Chromium';
   requests = [];
   faults = [];
+  warnings = []; // dialogs that were shown, and closed
 
   static async start() {
     const it = new Chromium();
@@ -105,6 +106,10 @@ export class Chromium extends Browser {
     }
     const { method, params } = message;
     if (method === 'Target.attachedToTarget') this.send('Network.enable', {}, params.sessionId).catch(() => {});
+    if (method === 'Page.javascriptDialogOpening') {
+      this.warnings.push(params.type);
+      this.send('Page.handleJavaScriptDialog', { accept: true }, message.sessionId).catch(() => {});
+    }
     if (method === 'Network.requestWillBeSent') this.requests.push(params.request.url);
     if (method === 'Runtime.exceptionThrown') this.faults.push(JSON.stringify(params.exceptionDetails));
     if (method === 'Log.entryAdded' && params.entry.level === 'error') this.faults.push(params.entry.text);

@@ -74,7 +74,7 @@ async function sample(browser) {
   await browser.click('#sample'); // 1
   await browser.until('document.body.dataset.settled');
   await says(browser, ALL);
-  await browser.click('#pictures button'); // 2: Save as PNG
+  await browser.click('#pictures figcaption button'); // 2: Save as PNG
   const { name, bytes } = await browser.saved(/\.png$/);
   check(name === '20261129T170020Z-SAMPLE_EARTH_20261129170020_0.1.png', name);
   check(pixelsOf(bytes).equals(earth()), "the saved picture is the program's");
@@ -92,7 +92,7 @@ async function sample(browser) {
 async function chosen(browser) {
   await given(browser, place('recording')); // 1 and 2: Choose a file, and the file
   await says(browser, ALL);
-  await browser.click('#pictures button'); // 3: Save as PNG
+  await browser.click('#pictures figcaption button'); // 3: Save as PNG
   check(pixelsOf((await browser.saved(/\.png$/)).bytes).equals(earth()), "the saved picture is the program's");
   check((await displayOf(browser, 'save-recording')) === 'none', "a recording of one's own isn't offered as the sample");
 }
@@ -115,7 +115,7 @@ async function lacking(browser) {
     const words = mend.length ? `\\D${sum} of \\d+ packets were lost` : '^((?!were lost).)*$';
     await says(browser, new RegExp(words), 'pictures');
   }
-  await browser.click('#pictures button');
+  await browser.click('#pictures figcaption button');
   const { bytes } = await browser.saved(/-mended-[0-9]+\.png$/);
   const assembled = spawnSync(program, [place('lacking2.shelf'), 'assemble', '0', '6', '313', '1']).stdout;
   check(pixelsOf(bytes).equals(assembled.subarray(assembled.length - 640 * 640)), "the picture is the program's");

@@ -1,7 +1,8 @@
 // The pixels of images on a shelf: those of the proved receiver's `export`, or of a JPEG, GIF or PNG by the browser;
 // and the segments of a picture put together.
 import { MOST_PIXELS } from './segments.mjs';
-import { shelfOf } from './shelf.mjs';
+import { lumaOf } from './colours.mjs';
+import { itemOfBytes, shelfOf } from './shelf.mjs';
 import { pictureKind } from './texts.mjs';
 import { isEncrypted, structureOf, viewOf } from './xrit.mjs';
 import { widthOf } from './png.mjs';
@@ -96,20 +97,11 @@ async function readPicture(bytes, kind) {
     context.drawImage(image, 0, 0);
     const { data } = context.getImageData(0, 0, image.width, image.height);
     const pixels = new Uint8Array(image.width * image.height);
-    for (let at = 0; at < pixels.length; at += 1) pixels[at] = greyOf(data, 4 * at);
+    for (let at = 0; at < pixels.length; at += 1) pixels[at] = lumaOf(data[4 * at], data[4 * at + 1], data[4 * at + 2]);
     return { bits: 8, columns: image.width, lines: image.height, pixels };
   } catch {
     return null;
   }
-}
-
-/**
- * The luma of a pixel, as ITU-R BT.601 has it.
- * @param {Uint8ClampedArray} data
- * @param {number} at
- */
-function greyOf(data, at) {
-  return Math.round((299 * data[at] + 587 * data[at + 1] + 114 * data[at + 2]) / 1000);
 }
 
 /**
@@ -125,11 +117,20 @@ export async function pictureOf(station, file) {
   const kind = pictureKind(file.data);
   if (kind) return readPicture(file.data, kind);
   const pixels = structure.columns * structure.lines;
-  if (pixels > MOST_PIXELS) return null;
-  const shelf = shelfOf(file.item);
+  if (pixels > MOST_PIXELS || isWithoutBounds(file)) return null;
+  const shelf = shelfOf(file.item.length ? file.item : itemOfBytes(file.proper));
   const out = pixels * (structure.bits > 8 ? 2 : 1) + HEAD_ROOM;
   const answer = station.run(['export', '0'], { shelf, rooms: { out, shelf: shelf.length } });
   return answer.status === 0 ? pictureOfPgm(answer.out) : null;
+}
+
+/**
+ * Whether an image is coded packet by packet, and its packets aren't known, as it didn't come from a shelf.
+ * @param {StoredFile} file
+ * @returns {boolean}
+ */
+export function isWithoutBounds({ item, header, data }) {
+  return !item.length && header !== null && structureOf(header)?.compression === 1 && !pictureKind(data);
 }
 
 /**
@@ -170,21 +171,20 @@ function lay(whole, picture, left, top) {
 }
 
 /**
- * A picture as it is shown: eight bits a pixel, and no side longer than so many, by leaving pixels out.
+ * A picture of which no side is longer than so many pixels, by leaving some out, and how many are left out.
  * @param {Picture} picture
  * @param {number} most
- * @returns {{columns: number, lines: number, grey: Uint8Array}}
+ * @returns {{step: number, pixels: Uint8Array}}
  */
-export function shown(picture, most) {
+export function thinned(picture, most) {
   const step = Math.max(1, Math.ceil(Math.max(picture.columns, picture.lines) / most));
+  if (step === 1) return { step, pixels: picture.pixels };
   const [columns, lines] = [Math.ceil(picture.columns / step), Math.ceil(picture.lines / step)];
   const width = widthOf(picture);
-  const greatest = 2 ** picture.bits - 1;
-  const grey = new Uint8Array(columns * lines);
-  for (let at = 0; at < grey.length; at += 1) {
+  const pixels = new Uint8Array(columns * lines * width);
+  for (let at = 0; at < columns * lines; at += 1) {
     const from = (Math.floor(at / columns) * step * picture.columns + (at % columns) * step) * width;
-    const value = width === 1 ? picture.pixels[from] : picture.pixels[from] * 256 + picture.pixels[from + 1];
-    grey[at] = (Math.min(value, greatest) * 255) / greatest;
+    for (let byte = 0; byte < width; byte += 1) pixels[at * width + byte] = picture.pixels[from + byte];
   }
-  return { columns, lines, grey };
+  return { step, pixels };
 }

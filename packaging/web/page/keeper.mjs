@@ -1,21 +1,24 @@
 // What a Worker with `lr_run` does: it finds the line code, holds the shelf, and makes pictures, texts and files of it.
 import { FileShelf, MemoryShelf, bytesOf } from './devices.mjs';
-import { joinedPicture, isReadable, pictureOf, shown } from './images.mjs';
+import { missionFiles } from './given.mjs';
+import { isReadable, isWithoutBounds, joinedPicture, pictureOf, thinned } from './images.mjs';
+import { lostAreas, lostLines } from './lost.mjs';
 import { safe, stampName } from './names.mjs';
+import { worsened } from './noise.mjs';
 import { pngOf } from './png.mjs';
 import { which } from './search.mjs';
 import { Groups, inWords } from './segments.mjs';
-import { CLOSED, HEADER_BYTES, fileOf, headsOf } from './shelf.mjs';
+import { CLOSED, HEADER_BYTES, fileOf, fileOfBytes, headsOf } from './shelf.mjs';
 import { lineReader } from './quality.mjs';
 import { headingOf, inside, nameOf, pictureKind } from './texts.mjs';
 import { TYPES, isEncrypted, mendedOf, stampOf, structureOf } from './xrit.mjs';
 import { ZipWriter } from './zip.mjs';
 
-const MOST_SIDE = 1200; // of a picture as it is shown
+const MOST_SIDE = 640; // of a picture in the list
 const MOST_SHOWN_CHARACTERS = 100_000; // of a text as it is shown
 const DRAW_SHARE = 4; // of the time between two drawings, drawing takes one part
 const PAUSE_AFTER = 30; // milliseconds of work after which messages are heard
-const MOST_DRAWN = 40; // pictures that are drawn until more are asked for
+const MOST_DRAWN = 60; // pictures in the list until more are asked for
 const WHOLE_ENDING = '.lrit';
 
 /**
@@ -44,9 +47,15 @@ export class Keeper {
   gone = new Set();
   /** @type {number[]} */
   queue = []; // files that are to be looked at
+  /** @type {Blob[]} */
+  given = []; // files in place of a shelf
   /** @type {Set<Group>} */
   changed = new Set(); // pictures that are to be drawn
-  most = MOST_DRAWN; // pictures that are drawn
+  /** @type {Set<Group>} */
+  drawn = new Set(); // those in the list
+  /** @type {Set<Group>} */
+  waiting = new Set(); // those that are drawn when more are asked for
+  most = MOST_DRAWN; // pictures in the list
   run = 0; // which shelf it is
   drawFrom = 0;
   isBusy = false;
@@ -120,8 +129,29 @@ export class Keeper {
     const status = live.live(['verify'], { input: { take: () => 0 }, shelf: this.shelf, put });
     for (const head of headsOf(this.shelf)) if (head.isDiscard) this.gone.add(head.number);
     this.look();
-    this.tell({ kind: 'opened', status, err: err.trim(), bad, files: this.heads.size - this.gone.size });
+    this.tell({ kind: 'opened', status, err: err.trim(), bad, files: this.count });
     this.end();
+  }
+
+  /**
+   * LRIT and HRIT files, alone or in zips, in place of a shelf.
+   * @param {File[]} files
+   */
+  async give(files) {
+    this.begin();
+    const { run } = this;
+    const { found, left } = await missionFiles(files, bytesOf);
+    if (this.run !== run) return;
+    this.given = found;
+    this.queue = [...found.keys()];
+    this.tell({ kind: 'given', files: found.length, left });
+    this.isEnding = true;
+    this.work();
+  }
+
+  /** How many files there are. */
+  get count() {
+    return this.given.length + this.heads.size - this.gone.size;
   }
 
   /**
@@ -130,6 +160,7 @@ export class Keeper {
    * @returns {StoredFile | null}
    */
   file(number) {
+    if (this.given[number]) return fileOfBytes(bytesOf(this.given[number]), number);
     const head = this.heads.get(number);
     return head ? fileOf(this.shelf.slice(head.gate + 1, head.extent), number) : null;
   }
@@ -152,8 +183,7 @@ export class Keeper {
     }
     if (this.run !== run) return;
     this.isBusy = false;
-    const waiting = Math.max(0, this.groups.all.length - this.most);
-    if (this.isEnding) this.tell({ kind: 'settled', files: this.heads.size - this.gone.size, waiting });
+    if (this.isEnding) this.tell({ kind: 'settled', files: this.count, waiting: this.waiting.size });
     this.isEnding = false;
   }
 
@@ -167,8 +197,9 @@ export class Keeper {
 
   /** Draws more pictures. */
   more() {
-    for (const group of this.groups.all.slice(this.most, this.most + MOST_DRAWN)) this.changed.add(group);
     this.most += MOST_DRAWN;
+    this.changed = this.waiting;
+    this.waiting = new Set();
     this.isEnding = true;
     this.work();
   }
@@ -192,7 +223,7 @@ export class Keeper {
     const type = isPicture ? 'type.picture' : typeOf(found.files);
     this.tell({ ...aboutFile(file), type, note: noteOf(header, found.note) });
     const group = isPicture ? this.groups.add(file) : null;
-    if (group && group.id < this.most) this.changed.add(group);
+    if (group) this.changed.add(group);
     for (const [member, it] of found.files.entries()) this.tellOpened(file, member, it);
   }
 
@@ -217,7 +248,7 @@ export class Keeper {
   }
 
   /**
-   * The picture of a group, or null.
+   * The picture of a group and what it lacks, or null.
    * @param {Group} group
    */
   async picture(group) {
@@ -225,22 +256,41 @@ export class Keeper {
     for (const { number, segment } of group.parts) {
       const file = this.file(number);
       const picture = file && (await pictureOf(this.station, file));
-      if (picture && !segment) return picture;
-      if (picture && segment) parts.push({ segment, picture });
+      if (picture) parts.push({ segment, picture, size: picture, lost: lostLines(file) });
+      if (picture && !segment) break;
     }
-    return parts.length ? joinedPicture(parts) : null;
+    const [one] = parts;
+    const known = parts.flatMap(({ segment, picture }) => (segment ? [{ segment, picture }] : []));
+    const picture = one && !one.segment ? one.picture : known.length ? joinedPicture(known) : null;
+    if (!picture) return null;
+    const pieces = parts.map(({ segment, size: { columns, lines }, lost }) => ({ segment, size: { columns, lines }, lost }));
+    return { picture, lost: lostAreas(pieces, picture) };
   }
 
-  /** Draws the picture that has waited longest. */
+  /** Draws the newest picture that is to be drawn. Where the list is full, the oldest one in it makes room. */
   async drawOne() {
-    const [group] = this.changed;
+    const group = newestOf(this.changed);
     this.changed.delete(group);
+    const oldest = this.drawn.size < this.most || this.drawn.has(group) ? null : oldestOf(this.drawn);
+    if (oldest && oldest.id > group.id) {
+      this.waiting.add(group);
+      return;
+    }
     const start = performance.now();
     const { run } = this;
-    const message = await this.drawn(group);
+    const message = await this.drawing(group);
     if (this.run !== run) return;
+    if (oldest) this.drop(oldest);
+    this.drawn.add(group);
     this.tell(message);
     this.drawFrom = performance.now() + DRAW_SHARE * (performance.now() - start);
+  }
+
+  /** @param {Group} group */
+  drop(group) {
+    this.drawn.delete(group);
+    this.waiting.add(group);
+    this.tell({ kind: 'dropped', id: group.id });
   }
 
   /**
@@ -248,25 +298,41 @@ export class Keeper {
    * @param {Group} group
    * @returns {Promise<Drawn>}
    */
-  async drawn(group) {
-    const { id, name, mended } = group;
-    const { missing } = group;
-    const lacks = { missing: inWords(missing), lacking: missing.length, mended };
-    const about = { id, name, stamp: stampText(group.header), ...lacks };
+  async drawing(group) {
+    const about = aboutGroup(group);
     const sent = this.asSent(group);
     if (sent) {
       const { file, kind } = sent;
       return { kind: 'sent', ...about, number: file.number, member: 0, bytes: file.data, type: kind.type };
     }
+    const seen = await this.seen(group, MOST_SIDE);
+    if (typeof seen !== 'string') return { kind: 'picture', ...about, seen };
+    return { kind: 'picture', ...about, seen: null, note: seen };
+  }
+
+  /**
+   * A picture as it is looked at, no side of it longer than so many pixels; or the key of the text that says why not.
+   * @param {Group} group
+   * @param {number} most
+   * @returns {Promise<import('./paint.mjs').Seen | Key>}
+   */
+  async seen(group, most) {
     try {
-      const picture = await this.picture(group);
-      if (!picture) return { kind: 'picture', ...about, shown: null };
-      const { columns, lines } = picture;
-      return { kind: 'picture', ...about, columns, lines, shown: shown(picture, MOST_SIDE) };
+      const found = await this.picture(group);
+      if (!found) return this.hasNoBounds(group) ? 'picture.bounds' : 'picture.none';
+      const { picture, lost } = found;
+      const { bits, columns, lines } = picture;
+      return { bits, columns, lines, lost, ...thinned(picture, most) };
     } catch (fault) {
       if (!(fault instanceof RangeError)) throw fault;
-      return { kind: 'picture', ...about, shown: null, note: 'picture.large' };
+      return 'picture.large';
     }
+  }
+
+  /** @param {Group} group */
+  hasNoBounds(group) {
+    const file = this.file(group.parts[0].number);
+    return file !== null && isWithoutBounds(file);
   }
 
   /**
@@ -293,10 +359,10 @@ export class Keeper {
     const stem = stemOf(group.header, group.name, number);
     const sent = this.asSent(group);
     if (sent) return { name: stem + sent.kind.ending, bytes: sent.file.data };
-    const picture = await this.picture(group);
+    const found = await this.picture(group);
     const lacks = group.missing.length ? `-lacks-${group.missing.length}` : '';
     const mended = group.mended ? `-mended-${group.mended.fillers}` : '';
-    return picture && { name: `${stem}${lacks}${mended}.png`, bytes: await pngOf(picture) };
+    return found && { name: `${stem}${lacks}${mended}.png`, bytes: await pngOf(found.picture) };
   }
 
   /**
@@ -321,7 +387,7 @@ export class Keeper {
       for (const it of files) zip.add(it.name, it.bytes);
     }
     const inGroups = new Set(this.groups.all.flatMap((group) => group.parts.map((part) => part.number)));
-    for (const number of this.heads.keys()) {
+    for (const number of [...this.given.keys(), ...this.heads.keys()]) {
       const file = inGroups.has(number) || this.gone.has(number) ? null : this.file(number);
       for (const it of file ? await this.savedInside(file) : []) zip.add(it.name, it.bytes);
     }
@@ -343,16 +409,27 @@ export class Keeper {
   }
 
   /**
-   * Sends the files of a shelf as symbols, with so many wrong bytes in each word.
-   * @param {Uint8Array} shelf
-   * @param {number} files
-   * @param {number} wrong
+   * Sends the files of a shelf as symbols, with so many wrong bytes in each word, and made worse.
+   * @param {import('./messages.mjs').Transmit} sample
    */
-  transmit(shelf, files, wrong) {
+  transmit({ shelf, files, wrong, worse }) {
     const words = ['transmit', '0', String(files), String(wrong), '--line', 'nrz-m', '--g2', 'plain'];
     const { status, out, err } = this.station.run(words, { shelf, rooms: { out: 1 << 23, shelf: shelf.length } });
     if (status !== 0) throw new Error(err);
-    this.tell({ kind: 'sample', bytes: out });
+    this.tell({ kind: 'sample', bytes: worsened(out, worse) });
+  }
+
+  /**
+   * Tells a picture as it is looked at.
+   * @param {number} id
+   * @param {number} most pixels of a side
+   */
+  async tellSeen(id, most) {
+    const { run } = this;
+    const seen = await this.seen(this.groups.all[id], most);
+    if (this.run !== run) return;
+    if (typeof seen === 'string') this.tell({ kind: 'looked', id, most, seen: null, note: seen });
+    else this.tell({ kind: 'looked', id, most, seen });
   }
 
   /** @param {number} id */
@@ -406,6 +483,17 @@ function stampText(header) {
   return stamp ? `${stamp.toISOString().slice(0, 16).replace('T', ' ')} UTC` : '';
 }
 
+/** @param {Set<Group>} groups */
+const newestOf = (groups) => [...groups].reduce((one, other) => (other.id > one.id ? other : one));
+
+/** @param {Set<Group>} groups */
+const oldestOf = (groups) => [...groups].reduce((one, other) => (other.id < one.id ? other : one));
+
+/** @param {Group} group */
+function aboutGroup({ id, name, header, missing, mended }) {
+  return { id, name, stamp: stampText(header), missing: inWords(missing), lacking: missing.length, mended };
+}
+
 /** @param {StoredFile} file */
 function aboutFile(file) {
   const { number, corrected, proper, header } = file;
@@ -435,6 +523,6 @@ function typeOf(files) {
 function noteOf(header, note) {
   if (header && isEncrypted(header)) return { key: 'note.encrypted' };
   const mended = header && mendedOf(header);
-  if (mended) return { key: 'note.mended', values: mended };
+  if (mended) return { key: 'note.mended', values: { fillers: mended.fillers, packets: mended.packets } };
   return note ? { key: note } : null;
 }

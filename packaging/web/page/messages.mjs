@@ -13,15 +13,18 @@
  * What a Worker is asked for.
  * @typedef {{kind: 'load', module: WebAssembly.Module, live: WebAssembly.Module}} Load live: for what reads a file
  * @typedef {{kind: 'which', file: Blob, chosen: Chosen}} Which
- * @typedef {{kind: 'transmit', shelf: Uint8Array, files: number, wrong: number}} Transmit
+ * @typedef {{kind: 'transmit', shelf: Uint8Array, files: number, wrong: number, worse: Worse}} Transmit
+ * @typedef {{noise: number, lost: number, seed: number}} Worse percent of noise, and lost frames
  * @typedef {{kind: 'receive', file: Blob, found: Found, port: MessagePort}} Receive
  * @typedef {{kind: 'judge', file: Blob, found: Found}} Judge
  * @typedef {{kind: 'keep', port: MessagePort}} Keep
  * @typedef {{kind: 'open', file: Blob}} Open
+ * @typedef {{kind: 'give', files: File[]}} Give
+ * @typedef {{kind: 'look', id: number, most: number}} Look most: pixels of a side
  * @typedef {{kind: 'save', id: number}} Save
  * @typedef {{kind: 'saveFile', number: number, member: number}} SaveFile member: -1 for the file as it was received
  * @typedef {{kind: 'end' | 'more' | 'saveAll' | 'saveShelf'}} Plain
- * @typedef {Load | Which | Transmit | Receive | Judge | Keep | Open | Save | SaveFile | Plain} Task
+ * @typedef {Load | Which | Transmit | Receive | Judge | Keep | Open | Give | Look | Save | SaveFile | Plain} Task
  *
  * What it tells.
  * @typedef {{kind: 'did', task: string}} Did
@@ -37,9 +40,11 @@
  *   note: Said | null}} FileTold
  * @typedef {{name: string, stamp: string, missing: string, lacking: number, mended: Mended | null}} About of a picture:
  *   which segments are missing, and how many
- * @typedef {{columns: number, lines: number, grey: Uint8Array}} Shown
- * @typedef {{kind: 'picture', id: number, columns?: number, lines?: number, shown: Shown | null, note?: Key} & About
- *   } PictureTold
+ * @typedef {import('./paint.mjs').Seen | null} SeenTold null where there is a note why
+ * @typedef {{kind: 'picture', id: number, seen: SeenTold, note?: Key} & About} PictureTold
+ * @typedef {{kind: 'looked', id: number, most: number, seen: SeenTold, note?: Key}} Looked
+ * @typedef {{kind: 'dropped', id: number}} Dropped a picture that has left the list
+ * @typedef {{kind: 'given', files: number, left: number}} Given
  * @typedef {{kind: 'sent', id?: number, number: number, member: number, bytes: Uint8Array, type: string} & About
  *   } SentTold id: of a picture, and none where it stands in another file
  * @typedef {{kind: 'text', number: number, member: number, name: string, stamp: string, heading: string, text: string,
@@ -47,7 +52,7 @@
  * @typedef {{kind: 'quality', buckets: Bucket[], total: Bucket, isWhole?: boolean}} Quality
  * @typedef {{kind: 'settled', files: number, waiting: number}} Settled
  * @typedef {{kind: 'saved', name?: string, bytes?: Uint8Array | Blob, type: string}} Saved
- * @typedef {Did | Failed | Sample | Trying | Tried | Answered | Progress | Received | Opened | FileTold | PictureTold | SentTold
- *   | TextTold | Quality | Settled | Saved} Told
+ * @typedef {Did | Failed | Sample | Trying | Tried | Answered | Progress | Received | Opened | Given | FileTold
+ *   | PictureTold | SentTold | Looked | Dropped | TextTold | Quality | Settled | Saved} Told
  */
 export {};

@@ -35,3 +35,12 @@ export function unused(name, names) {
 export function stampName(when) {
   return when ? `${when.toISOString().replace(/[-:]|\.\d+/g, '')}-` : '';
 }
+
+/**
+ * What the names of pictures of one channel share: a name without times, and without the number at its end.
+ * @param {string} name
+ * @returns {string}
+ */
+export function seriesOf(name) {
+  return name.replace(/\.[A-Za-z]+$/, '').replace(/[0-9]{6,}/g, '').replace(/[_-]?[0-9]+$/, '');
+}

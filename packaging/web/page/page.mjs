@@ -2,12 +2,18 @@
 import { at, element, save } from './elements.mjs';
 import { curveOf } from './curve.mjs';
 import { CODES, FORMS } from './forms.mjs';
+import { isMissionFile } from './given.mjs';
 import { HEADER_BYTES, isShelf } from './shelf.mjs';
+import { isZip } from './zip.mjs';
 import { View } from './view.mjs';
+import { Viewer } from './viewer.mjs';
 import { LANGUAGES, TERMS, counted, fillPage, languageOf, nodesOf, rich, text, use, used, wordsOf } from './words.mjs';
 
 const SAMPLE_WRONG = 8; // wrong bytes in each word of the sample
+const SAMPLE_FRAMES = 470;
+const SAMPLE_SEED = 1957;
 const FILLERS_OF_IMAGE = 64; // packets of an image that others may stand in for
+const KIND_BYTES = 64; // of a file, by which its kind is told
 const NOTHING_CHOSEN = { form: '', code: null };
 const [TORN, NO_MEMORY, DAMAGED] = [6, 9, 12]; // statuses
 const NOTHING_RAN = 256; // the answer of a call that got no memory before its command ran
@@ -39,13 +45,20 @@ class Page {
     this.workers = [];
     /** @type {Worker} */
     this.keeper = /** @type {any} */ (null);
-    this.view = new View((task) => this.keeper.postMessage(task));
+    /** @type {import('./view.mjs').Ask} */
+    const ask = (task) => this.ask(task);
+    /** @type {View} */
+    this.view = new View(ask, (entry) => this.viewer.open(entry));
+    /** @type {Viewer} */
+    this.viewer = new Viewer(ask, () => [...this.view.entries.values()]);
     /** @type {Blob} */
     this.file = new Blob();
     /** @type {Found | null} how the recording is read */
     this.found = null;
     this.files = 0;
     this.isSample = false;
+    this.isReceived = false; // files come from a recording, and not from the sample or a file that has them
+    this.isUnsaved = false; // something was received that can't be had again, and wasn't saved
     this.began = 0;
   }
 
@@ -114,31 +127,43 @@ class Page {
     this.clear();
     this.isSample = true;
     this.say({ key: 'state.sample' });
-    this.ask({ kind: 'transmit', shelf: bytesOfText(LENT.sample), files: LENT.files, wrong: SAMPLE_WRONG });
+    const worse = { noise: Number(at('noise').value), lost: Number(at('lost').value), seed: SAMPLE_SEED };
+    this.ask({ kind: 'transmit', shelf: bytesOfText(LENT.sample), files: LENT.files, wrong: SAMPLE_WRONG, worse });
   }
 
   clear() {
     this.endWorkers();
     this.view.clear();
     this.files = 0;
-    this.isSample = false;
+    Object.assign(this, { isSample: false, isReceived: false, isUnsaved: false });
     at('tries').replaceChildren();
-    at('tries-box').hidden = true;
-    at('save-recording').hidden = true;
+    for (const id of ['tries-box', 'save-recording', 'top']) at(id).hidden = true;
+    for (const id of ['save-shelf', 'save-note']) at(id).hidden = false;
     delete document.body.dataset.settled;
     this.going(true);
   }
 
   /**
-   * Takes a file that was chosen or dropped: a shelf, or a recording.
-   * @param {File} file
+   * Takes files that were chosen or dropped: a shelf, a recording, or LRIT files and zips of them.
+   * @param {File[]} files
    */
-  async start(file) {
+  async start(files) {
+    const [file] = files;
+    if (!file) return undefined;
     this.clear();
-    const front = new Uint8Array(await file.slice(0, HEADER_BYTES).arrayBuffer());
-    if (!isShelf(front)) return this.startRecording(file);
+    const front = new Uint8Array(await file.slice(0, KIND_BYTES).arrayBuffer());
+    if (files.length > 1 || isMissionFile(front) || isZip(front)) return this.startFiles(files);
+    if (!isShelf(front.subarray(0, HEADER_BYTES))) return this.startRecording(file);
     this.say({ key: 'state.shelf' });
     return this.ask({ kind: 'open', file });
+  }
+
+  /** @param {File[]} files */
+  startFiles(files) {
+    this.say({ key: 'state.files' });
+    // (they have no shelf, since it isn't known in which packets they came)
+    for (const id of ['save-shelf', 'save-note']) at(id).hidden = true;
+    this.ask({ kind: 'give', files });
   }
 
   /** @param {Blob} file */
@@ -152,6 +177,7 @@ class Page {
   receive(how) {
     const found = { ...how, mend: at('mend').checked ? FILLERS_OF_IMAGE : 0 };
     this.found = found;
+    this.isReceived = !this.isSample;
     const { port1, port2 } = new MessageChannel();
     this.ask({ kind: 'keep', port: port1 }, [port1]);
     const receiver = this.worker('lr_live');
@@ -198,26 +224,64 @@ class Page {
     progress: (progress) => this.hearProgress(progress),
     received: (received) => this.hearReceived(received),
     opened: (opened) => this.hearOpened(opened),
+    given: (given) => this.hearGiven(given),
     file: (file) => {
       this.files += 1;
+      this.isUnsaved ||= this.isReceived;
       this.view.file(file);
+      this.list();
     },
-    picture: (picture) => this.view.picture(picture),
-    sent: (sent) => this.view.sent(sent),
-    text: (told) => this.view.text(told),
+    picture: (picture) => this.show(() => this.view.picture(picture)),
+    sent: (sent) => this.show(() => this.view.sent(sent)),
+    dropped: ({ id }) => this.show(() => this.view.drop(id)),
+    looked: (looked) => this.viewer.looked(looked),
+    text: (told) => this.show(() => this.view.text(told)),
     quality: ({ buckets, total, isWhole = false }) => {
       at('quality').dataset.isWhole = String(isWhole);
       at('quality-section').hidden = false;
       at('quality').replaceChildren(...curveOf(buckets, total));
+      this.list();
     },
     settled: ({ files, waiting }) => {
       if (waiting) this.view.offerMore('pictures', () => this.ask({ kind: 'more' }));
       document.body.dataset.settled = String(files);
     },
     saved: ({ name, bytes, type }) => {
-      if (name) save(name, /** @type {any} */ ([bytes]), type);
+      if (name && bytes) save(name, [/** @type {BlobPart} */ (bytes)], type);
     },
   };
+
+  /** @param {() => void} put what changes a list */
+  show(put) {
+    put();
+    this.list();
+  }
+
+  /** The contents at the top: links to what there is. */
+  list() {
+    const { texts } = this.view.counts;
+    /** @type {[string, Said][]} */
+    const all = [
+      ['pictures', { key: 'contents.pictures', values: { count: this.view.entries.size } }],
+      ['texts', { key: 'contents.texts', values: { count: texts } }],
+      ['quality', { key: 'contents.quality' }],
+      ['layers', { key: 'layers.title' }],
+      ['files', { key: 'contents.files', values: { count: this.files } }],
+    ];
+    const there = all.filter(([id]) => !at(`${id}-section`).hidden);
+    const links = there.map(([id, said]) => element('a', { href: `#${id}-section`, textContent: wordsOf(said) }));
+    at('contents').replaceChildren(...links.map((it) => element('li', {}, it)));
+    at('top').hidden = !this.files;
+  }
+
+  /**
+   * Saves all, after which nothing is lost when the page is closed.
+   * @param {'saveAll' | 'saveShelf'} kind
+   */
+  saveWhole(kind) {
+    this.isUnsaved = false;
+    this.ask({ kind });
+  }
 
   /** @param {import('./messages.mjs').Tried} told */
   hearTried({ form, start, code, frames, restored }) {
@@ -257,6 +321,15 @@ class Page {
     else this.say(...summaryOf(last, this.found?.code ?? null));
     this.going(false);
     if (this.isSample) at('save-recording').hidden = false;
+  }
+
+  /** @param {import('./messages.mjs').Given} given */
+  hearGiven({ files, left }) {
+    this.going(false);
+    const said = files ? [counted('opened.files', files)] : [{ key: /** @type {Key} */ ('opened.none') }];
+    if (left && files) said.push(counted('opened.left', left));
+    this.say(said[0], !files);
+    if (said[1]) at('state').append(' ', ...nodesOf(said[1]));
   }
 
   /** @param {import('./messages.mjs').Opened} opened */
@@ -346,11 +419,18 @@ function fillLists() {
   at('build').textContent = text('about.build', { version: LENT.version });
 }
 
+/** How much worse the sample is made. */
+function tellWorse() {
+  at('noise-label').textContent = text('sample.noise', { percent: at('noise').value });
+  at('lost-label').replaceChildren(...rich('sample.lost', { count: at('lost').value, frames: SAMPLE_FRAMES }));
+}
+
 /** @param {string} code */
 function speak(code) {
   use(code);
   fillPage();
   fillLists();
+  tellWorse();
 }
 
 const page = new Page();
@@ -362,13 +442,14 @@ at('language').value = used();
 at('language').onchange = () => speak(at('language').value);
 at('sample').onclick = () => page.startSample();
 at('file').onchange = () => {
-  const [file] = at('file').files;
+  const files = [...at('file').files];
   at('file').value = '';
-  if (file) page.start(file);
+  page.start(files);
 };
 at('stop').onclick = () => page.stop();
-at('save-all').onclick = () => page.ask({ kind: 'saveAll' });
-at('save-shelf').onclick = () => page.ask({ kind: 'saveShelf' });
+at('save-all').onclick = () => page.saveWhole('saveAll');
+at('save-shelf').onclick = () => page.saveWhole('saveShelf');
+for (const id of ['noise', 'lost']) at(id).oninput = tellWorse;
 at('save-recording').onclick = () => save('sample.soft', [page.file], 'application/octet-stream');
 const drop = at('drop');
 document.ondragover = (event) => {
@@ -379,8 +460,10 @@ document.ondragleave = () => drop.classList.remove('over');
 document.ondrop = (event) => {
   event.preventDefault();
   drop.classList.remove('over');
-  const file = event.dataTransfer?.files[0];
-  if (file && !at('file').disabled) page.start(file);
+  if (!at('file').disabled) page.start(Array.from(event.dataTransfer?.files ?? []));
+};
+onbeforeunload = (event) => {
+  if (page.isUnsaved) event.preventDefault();
 };
 page.load().catch((fault) => {
   const isOld = fault instanceof WebAssembly.CompileError || fault instanceof TypeError;

@@ -15,8 +15,9 @@ const DISCARD_BYTES = 11;
 const FIELDS_BYTES = 11;
 const ORIGIN_BYTES = 24;
 const CHANNELS = 64;
-const TRANSPORT_BYTES = 10;
-const MOST_FILE_BYTES = 67_108_864;
+export const TRANSPORT_BYTES = 10;
+const MADE_BODY_BYTES = 8000; // of packets that are made of a file, where its own ones aren't known
+export const MOST_FILE_BYTES = 67_108_864;
 const HEAD_BYTES = 1 + 1 + FIELDS_BYTES + ORIGIN_BYTES; // of a gate and an item's front
 export const MOST_CAPACITY = 2 ** 40;
 const POLYNOMIAL = 0x1021;
@@ -167,6 +168,19 @@ export function fileOf(item, number) {
 }
 
 /**
+ * Where each body of a file ends, its transport header counted: nothing for one that stands on no shelf.
+ * @param {StoredFile} file
+ * @returns {number[]}
+ */
+export function endsOf({ item, packets, proper }) {
+  const first = item.length - CHECKSUM_BYTES - proper.length - TRANSPORT_BYTES - 2 * packets;
+  if (first < 0) return [];
+  const view = viewOf(item);
+  let end = 0;
+  return Array.from({ length: packets }, (_, place) => (end += view.getUint16(first + 2 * place)));
+}
+
+/**
  * The bytes of a shelf that has this item alone.
  * @param {Uint8Array} item
  * @returns {Uint8Array}
@@ -181,4 +195,41 @@ export function shelfOf(item) {
   bytes[HEADER_BYTES] = OPEN;
   bytes.set(item, HEADER_BYTES + 1);
   return bytes;
+}
+
+/**
+ * The file of these bytes, as one of a shelf whose packets aren't known.
+ * @param {Uint8Array} proper
+ * @param {number} number
+ * @returns {StoredFile}
+ */
+export function fileOfBytes(proper, number) {
+  const header = headerOf(proper);
+  const data = header ? proper.subarray(header.size) : proper.subarray(0, 0);
+  const item = new Uint8Array(0);
+  return { number, channel: 0, application: 0, packets: 0, frames: null, corrected: 0, item, proper, header, data };
+}
+
+/**
+ * The item of a file in packets that are made for it.
+ * @param {Uint8Array} proper
+ * @returns {Uint8Array}
+ */
+export function itemOfBytes(proper) {
+  const size = TRANSPORT_BYTES + proper.length;
+  const packets = Math.ceil(size / MADE_BODY_BYTES);
+  const lengths = 1 + FIELDS_BYTES + ORIGIN_BYTES;
+  const start = lengths + 2 * packets;
+  const item = new Uint8Array(start + size + CHECKSUM_BYTES);
+  const view = viewOf(item);
+  item[0] = FILE;
+  view.setUint32(4, packets);
+  view.setUint32(8, size);
+  for (let place = 0; place < packets; place += 1) {
+    view.setUint16(lengths + 2 * place, Math.min(MADE_BODY_BYTES, size - place * MADE_BODY_BYTES));
+  }
+  view.setBigUint64(start + 2, BigInt(8 * proper.length));
+  item.set(proper, start + TRANSPORT_BYTES);
+  view.setUint16(start + size, checksum(item.subarray(0, start + size)));
+  return item;
 }

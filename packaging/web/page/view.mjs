@@ -1,9 +1,13 @@
 // What the page shows of a shelf: pictures, texts, and a table of files. Each list begins with a part, and more is
 // shown when it is asked for.
+import { PLAIN } from './colours.mjs';
 import { at, button, element } from './elements.mjs';
+import { seriesOf } from './names.mjs';
+import { paint } from './paint.mjs';
 import { counted, nodesOf, rich, text, wordsOf } from './words.mjs';
 
 const MOST = { texts: 40, files: 200 }; // that are shown until more is asked for
+const FEW = 2; // pictures that are shown large
 
 /**
  * @typedef {(task: import('./messages.mjs').Task) => void} Ask
@@ -12,26 +16,40 @@ const MOST = { texts: 40, files: 200 }; // that are shown until more is asked fo
  * @typedef {import('./messages.mjs').PictureTold} PictureTold
  * @typedef {import('./messages.mjs').SentTold} SentTold
  * @typedef {import('./messages.mjs').About} About
+ * @typedef {import('./paint.mjs').Seen} Seen
  * @typedef {import('./words.mjs').Said} Said
+ * @typedef {object} Entry a picture in the list
+ * @property {number | null} id none where it stands in another file
+ * @property {string} name
+ * @property {string} stamp
+ * @property {string} series the same for pictures of one channel
+ * @property {Seen | null} seen as the list shows it
+ * @property {HTMLImageElement | null} image of one that is shown as it was sent
+ * @property {import('./messages.mjs').Task} saves what is asked for to save it
+ * @property {HTMLElement} figure
  */
 
 export class View {
-  /** @type {Map<number, HTMLElement>} */
-  figures = new Map(); // of pictures that may be drawn anew
+  /** @type {Map<string, Entry>} */
+  entries = new Map();
   counts = { texts: 0, files: 0 };
   /** @type {Record<string, (() => HTMLElement)[]>} what is made when more is asked for */
   hidden = { texts: [], files: [] };
   /** @type {string[]} */
   urls = [];
 
-  /** @param {Ask} ask what the keeper is asked for */
-  constructor(ask) {
+  /**
+   * @param {Ask} ask what the keeper is asked for
+   * @param {((entry: Entry) => void) | null} open shows a picture at its full size
+   */
+  constructor(ask, open = null) {
     this.ask = ask;
+    this.open = open;
   }
 
   clear() {
     this.urls.forEach((url) => URL.revokeObjectURL(url));
-    Object.assign(this, new View(this.ask));
+    Object.assign(this, new View(this.ask, this.open));
     for (const id of ['pictures-more', 'texts-more', 'files-more']) at(id).replaceChildren();
     for (const id of ['pictures', 'texts', 'files', 'quality']) {
       at(id).replaceChildren();
@@ -83,7 +101,8 @@ export class View {
   rowOf({ number, name, stamp, size, corrected, type, note }) {
     const isDamaged = type === 'type.damaged';
     const what = [text(type), note ? wordsOf(note) : ''].filter(Boolean).join(': ');
-    const cells = [number, name || text('file.name', { number }), stamp, what, isDamaged ? '' : size, isDamaged ? '' : corrected];
+    const numbers = isDamaged ? ['', ''] : [size, corrected];
+    const cells = [number, name || text('file.name', { number }), stamp, what, ...numbers];
     const row = element('tr', {}, ...cells.map((it) => element('td', { textContent: String(it) })));
     if (isDamaged) row.className = 'bad';
     const ask = () => this.ask({ kind: 'saveFile', number, member: -1 });
@@ -115,13 +134,15 @@ export class View {
    * @param {PictureTold} picture
    */
   picture(picture) {
-    const { id, name, stamp, columns, lines, note } = picture;
-    const shown = picture.shown ? canvasOf(picture, picture.shown) : element('p', { textContent: text('picture.none') });
-    const size = columns && lines ? text('picture.size', { columns, lines }) : '';
-    const caption = element('figcaption', {}, ...captionOf([name, stamp, size, note ? text(note) : ''], picture));
-    const ask = () => this.ask({ kind: 'save', id });
-    if (picture.shown) caption.append(button(text('view.save'), text('view.saves', { name }), ask));
-    this.putFigure(id, shown, caption);
+    const { id, name, stamp, seen, note } = picture;
+    const saves = /** @type {const} */ ({ kind: 'save', id });
+    const entry = this.entry(`${id}`, { id, name, stamp, seen, image: null, saves });
+    if (seen) {
+      this.fill(entry, canvasOf(picture, seen), [text('picture.size', { columns: seen.columns, lines: seen.lines })], picture);
+      return;
+    }
+    const words = note && note !== 'picture.none' ? [text('picture.none'), ' ', text(note)] : [text('picture.none')];
+    this.fill(entry, element('p', {}, ...words), [], picture);
   }
 
   /**
@@ -129,33 +150,84 @@ export class View {
    * @param {SentTold} sent
    */
   sent(sent) {
-    const url = URL.createObjectURL(new Blob([sent.bytes], { type: sent.type }));
+    const { id, number, member, name, stamp } = sent;
+    const url = URL.createObjectURL(new Blob([/** @type {BlobPart} */ (sent.bytes)], { type: sent.type }));
     this.urls.push(url);
-    const { id, number, member, name } = sent;
-    const image = element('img', { src: url, alt: `${name}, ${text('picture.sent')}` });
-    image.onerror = () => image.replaceWith(element('p', { textContent: text('picture.unread') }));
-    const caption = element('figcaption', {}, ...captionOf([name, sent.stamp, text('picture.sent')], sent));
-    const ask = () => this.ask(id === undefined ? { kind: 'saveFile', number, member } : { kind: 'save', id });
-    caption.append(button(text('files.save'), text('view.saves', { name }), ask));
-    this.putFigure(id, image, caption);
+    const alt = `${name}, ${text('picture.sent')}`;
+    const image = element('img', { src: url, alt, loading: 'lazy', decoding: 'async' });
+    /** @type {import('./messages.mjs').Task} */
+    const saves = id === undefined ? { kind: 'saveFile', number, member } : { kind: 'save', id };
+    const key = id === undefined ? `${number}.${member}` : `${id}`;
+    const entry = this.entry(key, { id: id ?? null, name, stamp, seen: null, image, saves });
+    image.onerror = () => {
+      entry.image = null;
+      this.fill(entry, element('p', { textContent: text('picture.unread') }), [], sent);
+    };
+    this.fill(entry, image, [text('picture.sent')], sent);
   }
 
   /**
-   * @param {number | undefined} id
-   * @param {HTMLElement} shown
-   * @param {HTMLElement} caption
+   * The entry of a picture, which has a place in the list by its time, the newest first.
+   * @param {string} key
+   * @param {Omit<Entry, 'figure' | 'series'>} about
+   * @returns {Entry}
    */
-  putFigure(id, shown, caption) {
-    const old = id === undefined ? undefined : this.figures.get(id);
-    if (old) {
-      old.replaceChildren(shown, caption);
+  entry(key, about) {
+    const old = this.entries.get(key);
+    if (old) return Object.assign(old, about);
+    const figure = element('figure', {});
+    const entry = { ...about, series: seriesOf(about.name), figure };
+    const later = [...this.entries.values()].filter((it) => it.stamp <= entry.stamp);
+    const before = later.reduce((/** @type {Entry | null} */ one, it) => (one && isBefore(one, it) ? one : it), null);
+    at('pictures').insertBefore(figure, before?.figure ?? null);
+    this.entries.set(key, entry);
+    this.arrange();
+    return entry;
+  }
+
+  /** @param {number} id of a picture that leaves the list */
+  drop(id) {
+    this.entries.get(`${id}`)?.figure.remove();
+    this.entries.delete(`${id}`);
+    this.arrange();
+  }
+
+  arrange() {
+    at('pictures-section').hidden = this.entries.size === 0;
+    at('pictures').classList.toggle('few', this.entries.size <= FEW);
+  }
+
+  /**
+   * Puts a picture and the words about it into its figure.
+   * @param {Entry} entry
+   * @param {HTMLElement} shown
+   * @param {string[]} words
+   * @param {About} about
+   */
+  fill(entry, shown, words, about) {
+    const { name, stamp, figure } = entry;
+    const { open } = this;
+    const isPicture = Boolean(entry.seen || entry.image);
+    const caption = element('figcaption', {}, ...captionOf([name, stamp, ...words], about));
+    const label = text('view.saves', { name });
+    if (isPicture) caption.append(button(text(entry.image ? 'files.save' : 'view.save'), label, () => this.ask(entry.saves)));
+    if (!isPicture || !open) {
+      figure.replaceChildren(shown, caption);
       return;
     }
-    const figure = element('figure', {}, shown, caption);
-    if (id !== undefined) this.figures.set(id, figure);
-    at('pictures-section').hidden = false;
-    at('pictures').append(figure);
+    const opens = element('button', { type: 'button', className: 'thumb', onclick: () => open(entry) }, shown);
+    opens.setAttribute('aria-label', text('picture.open', { name: [name, stamp].filter(Boolean).join(', ') }));
+    figure.replaceChildren(opens, caption);
   }
+}
+
+/**
+ * Whether a picture stands before another one in the list.
+ * @param {Entry} one
+ * @param {Entry} other
+ */
+function isBefore(one, other) {
+  return Boolean(one.figure.compareDocumentPosition(other.figure) & Node.DOCUMENT_POSITION_FOLLOWING);
 }
 
 /**
@@ -164,7 +236,7 @@ export class View {
  * @param {About} about
  */
 function captionOf(words, about) {
-  const lacks = lacksOf(about).flatMap((it) => [' ', element('p', { className: 'lacks' }, ...nodesOf(it))]);
+  const lacks = lacksOf(about).map((it) => element('p', { className: 'lacks' }, ...nodesOf(it)));
   return [element('p', { textContent: words.filter(Boolean).join(' · ') }), ...lacks];
 }
 
@@ -181,14 +253,15 @@ function lacksOf({ missing, lacking, mended }) {
 /**
  * A canvas with a picture on it.
  * @param {PictureTold} about
- * @param {import('./messages.mjs').Shown} shown
+ * @param {Seen} seen
  * @returns {HTMLCanvasElement}
  */
-function canvasOf(about, shown) {
-  const canvas = element('canvas', { width: shown.columns, height: shown.lines });
-  const image = new ImageData(shown.columns, shown.lines);
+function canvasOf(about, seen) {
+  const [width, height] = [Math.ceil(seen.columns / seen.step), Math.ceil(seen.lines / seen.step)];
+  const canvas = element('canvas', { width, height });
+  const image = new ImageData(width, height);
   const words = new Uint32Array(image.data.buffer);
-  for (let at = 0; at < words.length; at += 1) words[at] = 0xff000000 | (shown.grey[at] * 0x10101);
+  paint({ width, height, words }, seen, { x: 0, y: 0, scale: 1 / seen.step }, PLAIN);
   canvas.getContext('2d').putImageData(image, 0, 0);
   canvas.setAttribute('role', 'img');
   const label = [about.name, about.stamp, ...lacksOf(about).map(wordsOf)].filter(Boolean).join(', ');

@@ -40,7 +40,7 @@ const TASKS = {
     keeper = new Keeper(station, tell);
   },
   which: ({ file, chosen }) => keeper.which(file, chosen),
-  transmit: ({ shelf, files, wrong }) => keeper.transmit(shelf, files, wrong),
+  transmit: (sample) => keeper.transmit(sample),
   receive: ({ file, found, port }) => {
     receive(station, file, found, (change) => port.postMessage(change), tell);
     port.postMessage({ kind: 'end' });
@@ -49,6 +49,8 @@ const TASKS = {
   keep: ({ port }) => keep(port),
   end: () => keeper.end(),
   open: ({ file }) => keeper.open(file, new Station(live)),
+  give: ({ files }) => keeper.give(files),
+  look: ({ id, most }) => keeper.tellSeen(id, most),
   more: () => keeper.more(),
   save: ({ id }) => keeper.save(id),
   saveFile: ({ number, member }) => keeper.saveFile(number, member),

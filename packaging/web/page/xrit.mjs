@@ -79,9 +79,15 @@ export function isEncrypted(header) {
   return header.records.some((it) => it.kind === KINDS.key && it.inside.some((byte) => byte !== 0));
 }
 
-/** @param {Header} header */
-export function isLossless(header) {
-  return header.records.some((it) => it.kind === KINDS.lossless && it.inside.length + RECORD_BYTES === LOSSLESS_BYTES);
+/**
+ * How many lines a packet has whose lines are coded without loss; 0 where no record says it.
+ * @param {Header} header
+ * @returns {number}
+ */
+export function linesPerPacket(header) {
+  const isLossless = (/** @type {Uint8Array} */ inside) => inside.length + RECORD_BYTES === LOSSLESS_BYTES;
+  const found = header.records.find((it) => it.kind === KINDS.lossless && isLossless(it.inside));
+  return found ? found.inside[3] : 0;
 }
 
 /**
@@ -99,35 +105,35 @@ export function stampOf(header) {
 }
 
 /**
- * How many packets of a file stand in for some that were lost, and all of them.
+ * How many packets of a file stand in for some that were lost, and all of them; and the places of the former as runs,
+ * each with the place after its last one.
  * @typedef {{fillers: number, packets: number}} Mended
+ * @typedef {Mended & {runs: [number, number][]}} Marked
  */
 
 /**
  * What a text says that names the places of the packets which stand in, as `gomtasil mended 2 8-9 of 13`; or null.
  * @param {string} text
- * @returns {Mended | null}
+ * @returns {Marked | null}
  */
 function mendedText(text) {
   const found = MENDED.exec(text);
   if (!found) return null;
   const packets = Number(found[2]);
-  let [before, fillers] = [-1, 0];
-  for (const run of found[1].split(' ')) {
-    const [first, end] = run.split('-').map(Number);
-    const last = end ?? first;
-    const isLater = before < first && first <= last && last < packets;
-    if (!isLater) return null;
-    fillers += last - first + 1;
-    before = last;
-  }
-  return fillers <= MOST_FILLERS ? { fillers, packets } : null;
+  /** @type {[number, number][]} */
+  const runs = found[1].split(' ').map((run) => {
+    const [first, last] = run.split('-').map(Number);
+    return [first, (last ?? first) + 1];
+  });
+  const isInOrder = runs.every(([first, end], at) => (at ? runs[at - 1][1] : 0) <= first && first < end && end <= packets);
+  const fillers = runs.reduce((sum, [first, end]) => sum + end - first, 0);
+  return isInOrder && fillers <= MOST_FILLERS ? { fillers, packets, runs } : null;
 }
 
 /**
  * What the last record of that text says, or null where no packet was missing.
  * @param {Header} header
- * @returns {Mended | null}
+ * @returns {Marked | null}
  */
 export function mendedOf(header) {
   const texts = header.records.filter((it) => it.kind === KINDS.text).map((it) => it.inside);

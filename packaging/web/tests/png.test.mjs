@@ -3,7 +3,7 @@ import assert from 'node:assert';
 import test from 'node:test';
 import zlib from 'node:zlib';
 import { pngOf, scaled } from '../page/png.mjs';
-import { isReadable, pictureOfPgm, shown, sizeOf } from '../page/images.mjs';
+import { isReadable, pictureOfPgm, sizeOf, thinned } from '../page/images.mjs';
 import { bytesOf } from './support.mjs';
 
 /** The chunks of a PNG by their names. */
@@ -58,8 +58,10 @@ test('a PGM', () => {
 
 test('a large picture is shown smaller', () => {
   const pixels = Uint8Array.from({ length: 15 }, (_, it) => it);
-  const { columns, lines, grey } = shown({ bits: 8, columns: 5, lines: 3, pixels }, 3);
-  assert.deepEqual([columns, lines, ...grey], [3, 2, 0, 2, 4, 10, 12, 14]);
+  const { step, pixels: few } = thinned({ bits: 8, columns: 5, lines: 3, pixels }, 3);
+  assert.deepEqual([step, ...few], [2, 0, 2, 4, 10, 12, 14]);
+  const wide = thinned({ bits: 10, columns: 3, lines: 1, pixels: Uint8Array.of(0, 1, 0, 2, 0, 3) }, 2);
+  assert.deepEqual([...wide.pixels], [0, 1, 0, 3]);
 });
 
 test('sizes that pictures say', () => {

@@ -28,9 +28,16 @@ export function packedBits(values, bits) {
 
 /** An item of a shelf, of one body. */
 export function itemOf(number, proper, channel = 1, application = 100) {
+  return packedItem(proper, [(10 + proper.length) % 65536], { number, channel, application });
+}
+
+/** An item whose bodies have these sizes. */
+export function packedItem(proper, sizes, { number = 0, channel = 1, application = 100, frames = [0, 0] } = {}) {
   const content = [...big(number, 2), ...big(8 * proper.length, 8), ...proper];
-  const fields = [0x80, channel, ...big(application, 2), ...big(1, 4), ...big(content.length, 4), ...big(0, 24)];
-  const before = Uint8Array.from([...fields, ...big(content.length % 65536, 2), ...content]);
+  const counts = [...big(sizes.length, 4), ...big(content.length, 4)];
+  const origin = [...frames.flatMap((it) => big(it, 8)), ...big(0, 8)];
+  const lengths = sizes.flatMap((it) => big(it, 2));
+  const before = Uint8Array.from([0x80, channel, ...big(application, 2), ...counts, ...origin, ...lengths, ...content]);
   return Uint8Array.from([...before, ...big(checksum(before), 2)]);
 }
 
