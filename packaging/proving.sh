@@ -1,7 +1,7 @@
 # What `lritstation` and packaging's arm64.sh, library.sh and web.sh share: the proofs of a copy of the crates, and the
 # words of a build over it. They read it, so it is no script of its own. $top is the top of the repository, $program the
 # path of the built program, and $called the name under which progress is told. What is built is the crate $crate, whose
-# root is $root, and $product says what that is.
+# root is $root, and $product says what that is. $beside may name a further crate of the copy.
 # shellcheck shell=sh
 
 # Makes the folder $scratch. It goes when the script ends, by a signal too: the proofs, $proving, end then, and the
@@ -47,9 +47,9 @@ clear_away() {
     rm -rf "$scratch" "$program.new" "$program-v3.new" "$program-arm64.new"
 }
 
-# The lines of crates.txt for the crate that is built and for all that it stands on.
+# The lines of crates.txt for the crate that is built, for that beside it, and for all that they stand on.
 needed() {
-    awk -v built="$crate" '
+    awk -v built="$crate" -v beside="${beside-}" '
         /^#/ || !NF { next }
         { split($0, sides, ":"); split(sides[1], words, " "); line[words[1]] = $0; libraries[words[1]] = sides[2] }
         function need(name,    many, place, used) {
@@ -59,7 +59,7 @@ needed() {
             for (place = 1; place <= many; place++) need(used[place])
             print line[name]
         }
-        END { need(built) }' "$top/crates.txt"
+        END { need(built); need(beside) }' "$top/crates.txt"
 }
 
 # Copies what rt ci reads of the crates whose names come in, a line each.

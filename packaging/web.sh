@@ -1,15 +1,16 @@
 #!/bin/sh
 # Makes the receiver as a web page, FOLDER/receiver.html, and says its name: one file that works from a disk and from
 # any server. As packaging/library.sh does, it has rt ci prove a copy of the crates below, which keeps what it proved,
-# and proves lr_embed, and lr_live, which stands outside of crates/. The module that the kit's compiler makes of each is
-# given to the kit's clang once more, for WebAssembly with a memory of 64 bits and with vectors; web/retarget.py looks
-# that nothing in it is of another machine. The same commit gives the same bytes.
+# and proves lr_embed, and lr_live and lr_radio, which stand outside of crates/. The module that the kit's compiler makes
+# of each is given to the kit's clang once more, for WebAssembly with a memory of 64 bits and with vectors;
+# web/retarget.py looks that nothing in it is of another machine. The same commit gives the same bytes.
 # Usage: packaging/web.sh [FOLDER], by default the folder out/web. Needs rt, python3 and git. No network. $MODULES in
-# the environment may name a folder that gets the two modules too.
+# the environment may name a folder that gets the three modules too.
 # shellcheck disable=SC2034,SC2154 # (some are set in what is read, and some used there)
 top=$(cd -- "$(dirname -- "$0")/.." && pwd) || exit 1
 called=web.sh
 crate=lr_embed
+beside=lr_demod
 root=src/lib.rt
 product="web page"
 mkdir -p -- "${1:-$top/out/web}" || exit 1
@@ -87,6 +88,9 @@ find_kit || fail "rt doc doesn't say where the kit is"
 prove_below && compile && for_web lr_run -Os $heap || exit 1
 # shellcheck disable=SC2086
 outside "$top/packaging/web/lr_live" && compile && for_web lr_live -O3 $heap $host || exit 1
+# shellcheck disable=SC2086
+outside "$top/packaging/web/lr_radio" && compile && for_web lr_radio -O3 $heap lr_host_take lr_host_put lr_host_told ||
+    exit 1
 made_of="$(version), commit $(git -C "$top" rev-parse --short=12 HEAD)"
 python3 "$top/packaging/web/bundle.py" "$scratch/modules" "$made_of" "$program.new" || exit 1
 [ -z "${MODULES-}" ] || cp "$scratch/modules/"*.wasm "$MODULES/" || exit 1

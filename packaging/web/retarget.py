@@ -20,7 +20,7 @@ NEW_TRIPLE = "wasm64-unknown-unknown"
 # Functions of LLVM that mean the same on every machine.
 GENERIC = re.compile(
     r"llvm\.(memset|memmove|memcpy|trap|cttz|ctlz|ctpop|bswap|fshl|fshr|umax|umin|smax|smin|abs|assume|expect"
-    r"|lifetime\.start|lifetime\.end|arithmetic\.fence|[us](?:add|sub|mul)\.(?:with\.overflow|sat))(\.[a-z0-9.]+)?"
+    r"|lifetime\.start|lifetime\.end|arithmetic\.fence|sqrt|[us](?:add|sub|mul)\.(?:with\.overflow|sat))(\.[a-z0-9.]+)?"
 )
 # Attributes of functions, with their values where they have one.
 OF_X86 = re.compile(r'"(probe-stack"="inline-asm|stack-probe-size"="\d+|target-cpu"="x86-64(-v2)?)" ?')
@@ -34,15 +34,15 @@ UNKNOWN = re.compile(
     r"\b(asm|addrspace|thread_local|inttoptr|ptrtoint|x86_\w+|half|bfloat|ppc_fp128|fp128|vscale|callbr|invoke"
     r"|landingpad|va_arg|ifunc|gc|comdat|section|partition|personality|prologue|prefix|fastcc|coldcc|\w+cc|cc\d+)\b"
 )
-# Vectors are LLVM's own, of integers, and lie in memory in one order on both.
+# Vectors are LLVM's own, of integers or floats, and lie in memory in one order on both.
 VECTOR = re.compile(r"<\s*(\w+) x (\w+)")
-LENGTHS, ELEMENTS = {"2", "4", "8", "16", "32", "64"}, {"i1", "i8", "i16", "i32", "i64"}
+LENGTHS, ELEMENTS = {"2", "4", "8", "16", "32", "64"}, {"i1", "i8", "i16", "i32", "i64", "float"}
 # A text of no instruction, which only keeps the order of reads and writes.
 ORDER = '  call void asm sideeffect "", "~{memory}"()'
 # Instructions. Atomic ones are plain there, as the module's memory is of one thread.
 KNOWN = set(
-    "add alloca and ashr bitcast br call cmpxchg extractelement extractvalue fadd fcmp fdiv fmul fneg freeze fsub"
-    " getelementptr icmp insertelement insertvalue load lshr mul or phi ptrtoaddr ret sdiv select sext shl"
+    "add alloca and ashr bitcast br call cmpxchg extractelement extractvalue fadd fcmp fdiv fmul fneg fpext freeze"
+    " fsub getelementptr icmp insertelement insertvalue load lshr mul or phi ptrtoaddr ret sdiv select sext shl"
     " shufflevector sitofp srem store sub switch trunc udiv uitofp unreachable urem xor zext".split()
 )
 INSTRUCTION = re.compile(r"\s+(?:%[\w.$-]+ = )?(?:(?:tail|musttail|notail) )?(\w+)")

@@ -53,6 +53,13 @@ class Retarget(unittest.TestCase):
         text = "  %r1 = add <32 x i16> %r0, %r0\n  switch i8 %r1, label %a [\n    i8 0, label %b\n  ]\n  ret void\n"
         self.assertIn(text, retargeted(HEAD + BODY + text, NAMES))
 
+    def test_floats(self):
+        text = "  %r1 = fmul <8 x float> %r0, %r0\n  %r2 = fpext float %r3 to double\n  ret void\n"
+        text += "}\ndeclare float @llvm.sqrt.f32(float) #1\n"
+        self.assertIn(text, retargeted(HEAD + BODY + text, NAMES))
+        with self.assertRaisesRegex(Unknown, "declares llvm.fma.f32"):
+            retargeted(HEAD + BODY + text.replace("sqrt", "fma"), NAMES)
+
     def test_what_only_keeps_an_order(self):
         text = '  call void asm sideeffect "", "~{memory}"()\n'
         self.assertIn(text, retargeted(HEAD + BODY + text, NAMES))

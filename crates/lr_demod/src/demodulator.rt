@@ -64,6 +64,7 @@ pub struct Demodulator {
     held: usize,
     next: Place,
     soft: Vec<i8>,
+    across: Vec<i8>,
     /// The phase of the mixer, in turns.
     mixer_phase: f64,
     /// Whether a carrier was ever found.
@@ -73,6 +74,7 @@ pub struct Demodulator {
     ghost held_i_whole: { vec_len held_i ≡ HELD_SAMPLES },
     ghost held_q_whole: { vec_len held_q ≡ HELD_SAMPLES },
     ghost soft_whole: { vec_len soft ≡ BLOCK_SAMPLES },
+    ghost across_whole: { vec_len across ≡ BLOCK_SAMPLES },
 }
 
 /// Asks the filters once a symbol, as far as the first `count` samples go.
@@ -84,10 +86,12 @@ fn make_symbols(
     count: usize,
     first: Place,
     soft: &mut [i8],
+    across: &mut [i8],
 ) -> Made
     requires i { length i.now ≡ HELD_SAMPLES }
     requires q { length q.now ≡ HELD_SAMPLES }
     requires count { count ≤ HELD_SAMPLES }
+    requires across { length across.old ≡ length soft.old }
     ensures { result.symbols ≤ length soft.old }
 {
     let width = filters.width();
@@ -104,6 +108,7 @@ fn make_symbols(
         let symbol = filters.filtered(place, &i[here..here + width], &q[here..here + width]);
         let step = loops.step(&symbol);
         soft[k] = step.soft;
+        across[k] = step.across;
         let next = made.next.fraction as u64 + step.advance;
         made = Made {
             symbols: k + 1,
@@ -140,6 +145,7 @@ impl Demodulator {
         let held_i = vec![in alloc; 0.0f32; HELD_SAMPLES]?;
         let held_q = vec![in alloc; 0.0f32; HELD_SAMPLES]?;
         let soft = vec![in alloc; 0i8; BLOCK_SAMPLES]?;
+        let across = vec![in alloc; 0i8; BLOCK_SAMPLES]?;
         Ok(Demodulator {
             rate: settings.rate,
             search,
@@ -156,6 +162,7 @@ impl Demodulator {
             held: 0,
             next: FIRST,
             soft,
+            across,
             mixer_phase: 0.0,
             has_begun: false,
         })
@@ -198,6 +205,14 @@ impl Demodulator {
         self.loops.hand_over();
         let symbols = self.make(count);
         &self.soft[..symbols]
+    }
+
+    /// The values across the phase of the last block's soft symbols, on the same scale: of a clean signal 0, and with it
+    /// the two are a constellation's point. Those after the symbols that it gave are older.
+    pub fn across(&self) -> &[i8]
+        ensures { length result.now ≡ BLOCK_SAMPLES }
+    {
+        &self.across
     }
 
     /// Takes all whole samples, in blocks, and appends the soft symbols that they complete. A carrier is sought in
@@ -280,6 +295,7 @@ impl Demodulator {
             held,
             self.next,
             &mut self.soft,
+            &mut self.across,
         );
         self.drop_before(made.next, held);
         made.symbols

@@ -148,10 +148,11 @@ pub(crate) struct Loops {
     is_locked: bool,
 }
 
-/// A soft symbol, and the way to the next one in parts of a sample.
+/// A soft symbol, the value across its phase on the same scale, and the way to the next one in parts of a sample.
 #[derive(Clone, Copy)]
 pub(crate) struct Step {
     pub(crate) soft: i8,
+    pub(crate) across: i8,
     pub(crate) advance: u64,
 }
 
@@ -336,6 +337,7 @@ impl Loops {
         }
         self.phase = wrapped(self.phase);
         let soft = self.soft_of(in_phase);
+        let across = self.soft_of(across);
         self.checked = self.checked.saturating_add(1);
         if self.checked >= CHECK_SYMBOLS {
             self.checked = 0;
@@ -343,6 +345,7 @@ impl Loops {
         }
         Step {
             soft,
+            across,
             advance: saturating_f64_to_u64(advance)
                 .max(SAMPLE_PARTS)
                 .min(MOST_ADVANCE),

@@ -77,6 +77,15 @@ fn agreement(levels: &[f64], soft: &[i8], lag: usize, count: usize) -> i64 {
     sum
 }
 
+/// The mean height of values.
+fn mean_height(values: &[i8]) -> f64 {
+    let mut sum = 0usize;
+    for k in 0..values.len() {
+        sum = sum.saturating_add(values[k].unsigned_abs() as usize);
+    }
+    nearest_usize_to_f64(sum) / nearest_usize_to_f64(values.len().max(1))
+}
+
 /// The most symbols that agree with the levels, by the place of the first one and the polarity.
 fn best_agreement(levels: &[f64], soft: &[i8], count: usize) -> i64 {
     let mut best = 0i64;
@@ -122,6 +131,20 @@ fn a_signal_becomes_its_symbols(rt: HostRuntime) -> Result<(), AllocError> {
         lock.clock > -5.0 && lock.clock < 5.0,
         "no error of the clock"
     );
+    Ok(())
+}
+
+#[test]
+fn a_clean_signal_stands_in_phase(rt: HostRuntime) -> Result<(), AllocError> {
+    let alloc = rt.alloc();
+    let levels = drawn_levels(alloc)?;
+    let bytes = recording(alloc, &levels, 0.003)?;
+    let mut demodulator = Demodulator::new(alloc, &Settings::usual(RATE, 1000.0))?;
+    let mut soft = Vec::new(alloc);
+    demodulator.push(Form::F32, &bytes, &mut soft)?;
+    let height = mean_height(&soft);
+    assert!(rt; height > 30.0 && height < 34.0, "the usual scale is 32");
+    assert!(rt; mean_height(demodulator.across()) < 2.0);
     Ok(())
 }
 

@@ -21,19 +21,24 @@ const COUNTS_BYTES = 24;
  * @property {(place: number, bytes: Uint8Array) => void} write
  * @property {(length: number) => void} cut
  * @property {() => void} sync
- * @typedef {{input: Input, shelf: Shelf, put: (output: number, bytes: Uint8Array) => void}} Devices
+ * @typedef {(output: number, bytes: Uint8Array) => void} Put
+ * @typedef {{input: Input, shelf: Shelf, put: Put}} Devices
+ * @typedef {{level: number, clipped: number, isLocked: boolean, ratio: number, carrier: number, clock: number}} Signal
+ *   decibels, a part, whether a carrier is held, and of that Es/N0 in decibels, Hz, and parts of a million
+ * @typedef {{input: Input, put: Put, told: (signal: Signal) => void}} RadioDevices
+ * @typedef {{rate: number, symbols: number, rollOff: number, number: number}} RadioSettings number: of the samples' form
  * @typedef {{out?: number, shelf?: number, calls?: number}} Rooms
  * @typedef {{status: number, out: Uint8Array, err: string, shelf: Uint8Array}} Answer
  */
 
-/** One instance of a module with `lr_run`, with `lr_live`, or with both. A call that traps spends it. */
+/** One instance of a module with `lr_run`, `lr_live` or `lr_radio`. A call that traps spends it. */
 export class Station {
   /** @param {WebAssembly.Module} module */
   constructor(module) {
     this.isSpent = false;
     /** @type {unknown} what a device threw within the last call */
     this.fault = null;
-    /** @type {Devices | null} */
+    /** @type {Devices | RadioDevices | null} */
     this.devices = null;
     const instance = new WebAssembly.Instance(module, { env: this.environment() });
     /** @type {Record<string, any>} */
@@ -72,12 +77,12 @@ export class Station {
     };
   }
 
-  /** The seven functions of `lr_live`. Whatever a device throws is an answer of -1. */
+  /** The seven functions of `lr_live`, and that of `lr_radio`. Whatever a device throws is an answer of -1. */
   hostFunctions() {
-    /** @param {(devices: Devices) => number | void} what */
+    /** @param {(devices: Devices & RadioDevices) => number | void} what */
     const asked = (what) => {
       try {
-        return this.devices ? BigInt(what(this.devices) ?? 0) : -1n;
+        return this.devices ? BigInt(what(/** @type {any} */ (this.devices)) ?? 0) : -1n;
       } catch (fault) {
         this.fault = fault;
         return -1n;
@@ -100,6 +105,10 @@ export class Station {
       /** @param {bigint} length */
       lr_host_cut: (length) => asked((it) => it.shelf.cut(Number(length))),
       lr_host_sync: () => asked((it) => it.shelf.sync()),
+      /** @param {number[]} words */
+      lr_host_told: (...[level, clipped, isLocked, ratio, carrier, clock]) => {
+        asked((it) => void it.told({ level, clipped, isLocked: isLocked !== 0, ratio, carrier, clock }));
+      },
     };
   }
 
@@ -117,13 +126,13 @@ export class Station {
   /**
    * Calls an export. A trap leaves the module's memory in between two states, so no further call is made then.
    * @param {string} name
-   * @param {number[]} words
+   * @param {(number | bigint)[]} words
    * @returns {number}
    */
   call(name, words) {
     if (this.isSpent) throw new Error('an earlier call of the receiver ended in a trap');
     this.isSpent = true;
-    const answer = this.exports[name](...words.map(BigInt));
+    const answer = this.exports[name](...words);
     this.isSpent = false;
     return answer;
   }
@@ -163,7 +172,7 @@ export class Station {
       const [out, err, kept] = [rooms.out, ERR_ROOM, rooms.shelf].map((it) => take(it));
       const counts = take(COUNTS_BYTES);
       const words = [...given, rooms.calls, out, rooms.out, err, ERR_ROOM, kept, rooms.shelf, counts];
-      const status = this.call('lr_run', words);
+      const status = this.call('lr_run', words.map(BigInt));
       const isRun = status < NO_MEMORY;
       const sizes = isRun ? Array.from(new BigUint64Array(this.memory.buffer, counts, 3), Number) : [0, 0, 0];
       /** @param {number} place @param {number} size */
@@ -209,7 +218,23 @@ export class Station {
     this.devices = devices;
     this.fault = null;
     try {
-      return this.withRooms((take) => this.call('lr_live', [take(text.length, text), text.length]));
+      return this.withRooms((take) => this.call('lr_live', [take(text.length, text), text.length].map(BigInt)));
+    } finally {
+      this.devices = null;
+    }
+  }
+
+  /**
+   * Demodulates a recording of complex samples over devices. Its status.
+   * @param {RadioSettings} settings
+   * @param {RadioDevices} devices
+   * @returns {number}
+   */
+  radio({ rate, symbols, rollOff, number }, devices) {
+    this.devices = devices;
+    this.fault = null;
+    try {
+      return this.call('lr_radio', [rate, symbols, rollOff, number]);
     } finally {
       this.devices = null;
     }
