@@ -26,66 +26,39 @@ has lines `FILES | NUMBERS | WHY`; one that fits no number is a fault too.
 import os
 import re
 import sys
+from collections.abc import Iterable, Iterator
 
 from constants import CONSTANT, Constants
+from sources import RUST_NOTES, TESTS, TOP, files_of, only_clauses, without
 
 HERE = os.path.dirname(os.path.abspath(__file__))
 TABLE = os.path.join(HERE, "bare_numbers.txt")
 KEPT = os.path.join(HERE, "bare_numbers_kept.txt")
 LEAST = 10  # (of the rules without a table)
-TESTS = ("lr_trials_", "lr_cases", "lr_bench", "lr_example")
 
 NUMBER = re.compile(r"(?<![\w.\-'◌])(0x[0-9a-fA-F_]+|0b[01_]+|\d[\d_]*)(?![\w\-'])")
 ANTT_NOTES = re.compile(r'\{-.*?-\}|"(?:[^"\\\n]|\\.)*"|(?:(?<=\s)|^)--[^\n]*', re.S | re.M)
 ANTT_IMPORTS = re.compile(r"^(?:pub )?(?:use|mod) [^\n{]*(?:\{[^}]*\})?[^\n]*", re.M)
-RUST_NOTES = re.compile(r'"(?:[^"\\]|\\.)*"|//[^\n]*')
-CLAUSE = re.compile(r"\b(?:requires|ensures|ghost)\b(?! use\b)[^{};\n]*\{")
+
+Span = tuple[int, int]
+Numbers = dict[int, list[Span]]  # the places of each number of a line
+Known = dict[int, list[str]]  # the names of each value
+Said = tuple[int, str, str]  # a number: its line, its text and what to write
 
 
-def blank(text):
-    """The text with a space for each character, so that places stay."""
-    return re.sub(r"[^\n]", " ", text)
-
-
-def without(pattern, text):
-    return pattern.sub(lambda found: blank(found.group(0)), text)
-
-
-def closing_brace(text, start):
-    """The place after the brace that closes the one before `start`."""
-    depth = 1
-    for place in range(start, len(text)):
-        depth += {"{": 1, "}": -1}.get(text[place], 0)
-        if depth == 0:
-            return place + 1
-    return len(text)
-
-
-def clauses_of(text):
-    """The clauses and ghost items of Rust code, each character in its place."""
-    kept, place = [], 0
-    for found in CLAUSE.finditer(text):
-        if found.start() < place:
-            continue
-        end = closing_brace(text, found.end())
-        kept += [blank(text[place:found.start()]), text[found.start():end]]
-        place = end
-    return "".join(kept) + blank(text[place:])
-
-
-def read_lines(path):
+def read_lines(path: str) -> list[str]:
     """The lines of a file in which numbers are looked for."""
     with open(path, encoding="utf-8") as file:
         text = file.read()
     if path.endswith(".antt"):
         return without(ANTT_IMPORTS, without(ANTT_NOTES, text)).split("\n")
-    return clauses_of(without(RUST_NOTES, text)).split("\n")
+    return only_clauses(without(RUST_NOTES, text)).split("\n")
 
 
 class Row:
     """A line of the table."""
 
-    def __init__(self, line):
+    def __init__(self, line: str) -> None:
         cells = [cell.strip() for cell in line.split("|", 4)] + [""] * 4
         value, self.name, module, crates, self.where = cells[:5]
         crate, _, rest = module.partition(" ")
@@ -97,17 +70,17 @@ class Row:
         self.value = int(value) if len(words) == 1 else None
         self.form = re.compile(r"(?<![\w.\-'^])" + r"\s*".join(map(re.escape, words)) + r"(?![\w\-'])")
 
-    def serves(self, path):
-        def names(word):
+    def serves(self, path: str) -> bool:
+        def names(word: str) -> bool:
             return word == "*" or path == f"crates/{word}" or path.startswith(f"crates/{word}/")
 
         return any(map(names, self.within)) and not any(map(names, self.without))
 
-    def fits(self, line, start, end):
+    def fits(self, line: str, start: int, end: int) -> bool:
         where = self.where.replace("#", f"(?:{re.escape(line[start:end])})")
         return not where or any(it.start() <= start < it.end() for it in re.finditer(where, line))
 
-    def places(self, line, numbers):
+    def places(self, line: str, numbers: Numbers) -> list[Span]:
         """Where the row's number stands in a line whose numbers stand at these places, as pairs of start and end."""
         if self.value is None:
             found = [it.span() for it in self.form.finditer(line)]
@@ -116,19 +89,20 @@ class Row:
         return [place for place in found if self.fits(line, *place)]
 
 
-def numbers_in(line):
+def numbers_in(line: str) -> Numbers:
     """The places of each number of a line, by its value."""
-    found = {}
+    found: Numbers = {}
     for it in NUMBER.finditer(line):
         found.setdefault(int(it.group(1).replace("_", ""), 0), []).append(it.span())
     return found
 
 
-def bare_numbers(path, rows):
+def bare_numbers(path: str, rows: list[Row]) -> Iterator[tuple[int, str, Row]]:
     """Each bare number of a file: its line, its text and its row."""
     rows = [row for row in rows if row.serves(path)]
     for number, line in enumerate(read_lines(path), 1):
-        numbers, taken = numbers_in(line), []
+        numbers = numbers_in(line)
+        taken: list[Span] = []
         for row in rows if numbers else ():
             for start, end in row.places(line, numbers):
                 if all(end <= other or start >= last for other, last in taken):
@@ -136,22 +110,15 @@ def bare_numbers(path, rows):
                     yield number, line[start:end], row
 
 
-def sources(crates):
-    for crate in crates or sorted(os.listdir("crates")):
-        for folder, folders, files in os.walk(f"crates/{crate}"):
-            folders[:] = sorted(set(folders) - {"out", "must-fail", "data"})
-            yield from (f"{folder}/{it}" for it in sorted(files) if it.endswith((".rt", ".antt")))
-
-
-def code_of(path):
+def code_of(path: str) -> tuple[list[str], list[str]]:
     """The lines of a source in which the rules without a table look: no constants, no rows of numbers, no exponents."""
     with open(path, encoding="utf-8") as file:
         text = without(CONSTANT, without(RUST_NOTES, file.read()))
     text = without(re.compile(r"\b\d\w*(?:,\s*\d\w*){2,}|\^ \d+|\b\d+ =>"), text)
-    return text.split("\n"), clauses_of(text).split("\n")
+    return text.split("\n"), only_clauses(text).split("\n")
 
 
-def named_numbers(path, known):
+def named_numbers(path: str, known: Known) -> Iterator[Said]:
     """Each number of a source that is a constant in its reach: its line, its text and what to write."""
     for number, line in enumerate(code_of(path)[0], 1):
         for value, places in numbers_in(line).items():
@@ -159,7 +126,7 @@ def named_numbers(path, known):
                 yield from ((number, line[start:end], " or ".join(known[value])) for start, end in places)
 
 
-def parts_of(lines, known):
+def parts_of(lines: list[str], known: Known) -> Iterator[tuple[int, str]]:
     """The numbers that clauses compare with a constant and that are none, each with the constant's name."""
     names = {name: name for words in known.values() for name in words}
     for line in lines:
@@ -171,7 +138,7 @@ def parts_of(lines, known):
                 yield from ((it, whole[0]) for it in values if it not in known)
 
 
-def parts_of_constants(path, known):
+def parts_of_constants(path: str, known: Known) -> Iterator[Said]:
     """Each number of a source's clauses that is a part of a constant."""
     lines = code_of(path)[1]
     parts = dict(parts_of(lines, known))
@@ -182,17 +149,17 @@ def parts_of_constants(path, known):
                 yield from ((number, line[start:end], said) for start, end in places)
 
 
-def own_numbers(crates):
+def own_numbers(crates: Iterable[str]) -> Iterator[tuple[str, int, str, str]]:
     """What the rules without a table find, in the libraries and the program: each with its file."""
-    constants = Constants(lambda text: without(RUST_NOTES, text))
-    for path in sources(crates):
+    constants = Constants()
+    for path in files_of(crates):
         if path.endswith(".rt") and "/src/" in path and not path.split("/")[1].startswith(TESTS):
             known = {value: names for value, names in constants.in_reach(path).items() if value >= LEAST}
             yield from ((path, *it) for it in named_numbers(path, known))
             yield from ((path, *it) for it in parts_of_constants(path, known))
 
 
-def rows_of(path):
+def rows_of(path: str) -> list[str]:
     """The rows of a table: lines but comments, each with those that go on with it."""
     with open(path, encoding="utf-8") as file:
         lines = [it for it in file.read().splitlines() if it.strip() and it[0] != "#"]
@@ -202,20 +169,21 @@ def rows_of(path):
 class Kept:
     """What is left out: files, their numbers, and which of these were met."""
 
-    def __init__(self):
+    def __init__(self) -> None:
         cells = [[cell.split() for cell in row.split("|")] for row in rows_of(KEPT)]
         self.wanted = {(f"crates/{file}", number) for files, numbers, _ in cells for file in files for number in numbers}
-        self.met = set()
+        self.met: set[tuple[str, str]] = set()
 
-    def has(self, path, text):
+    def has(self, path: str, text: str) -> bool:
         self.met.add((path, text))
         return (path, text) in self.wanted
 
 
-def main():
+def main() -> int:
+    os.chdir(TOP)
     rows, kept = [Row(line) for line in rows_of(TABLE)], Kept()
     found = [(path, number, text, f"{row.name} ({row.module or 'as it is'})")
-             for path in sources(sys.argv[1:]) for number, text, row in bare_numbers(path, rows)]
+             for path in files_of(sys.argv[1:]) for number, text, row in bare_numbers(path, rows)]
     found += own_numbers(sys.argv[1:])
     bare = [it for it in found if not kept.has(it[0], it[2])]
     for path, number, text, said in bare:

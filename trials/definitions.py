@@ -7,14 +7,12 @@ PAGE gets the definitions on which the promises rest, each with its first commen
 follows those that it uses. The second form prints the list of one definition, such as
 `trials/definitions.py lr_cmd_receive/Receive ReceiveRun`.
 """
-import itertools
 import os
-import re
 import sys
 from collections.abc import Iterable
-from typing import NamedTuple
 
-TOP = os.path.dirname(os.path.dirname(os.path.abspath(__file__)))
+from sources import TOP, Place, SpecFile
+
 MENDING = "lr_mend"  # the crate whose definitions are counted apart
 HEAD = """# Definitions
 
@@ -23,21 +21,6 @@ No proof says that a definition is the right one: a reader has to compare it wit
 definitions to read for that, in reading order, each with its first comment; a part leaves out what an earlier part has.
 The kit's definitions of lists and numbers aren't listed. `trials/definitions.py` made this page from the `use` lines.
 """
-
-
-class Place(NamedTuple):
-    """A definition: its file, from the top of the repository, and its name."""
-
-    path: str
-    name: str
-
-
-class Definition(NamedTuple):
-    """A definition of a file: its first comment, how many lines it has, and the words in it."""
-
-    comment: str
-    lines: int
-    words: set[str]
 
 
 # the page's headings, each with the files or the definition where its part begins
@@ -50,69 +33,16 @@ PARTS: dict[str, list[tuple[str, str | None]]] = {
     "What the top call promises": [("lr_station/Runs", None)],
 }
 
-IMPORT = re.compile(r"^\s*(?:pub )?use Rattle\.(lr_\w+)\.specs\.([\w.]+?)\.\{([^}]*)\}", re.M)
-DEFINITION = re.compile(r"^\s*(?:(?:abbrev|unfoldable) (?:pub )?|(?:pub )?(?:record|data) )([^\s:(){}]+)")
-WORD = re.compile(r"[^\s(){}.,;:λ→×⊎≡=]+")
-
-
-def text_of(path: str) -> str:
-    with open(os.path.join(TOP, path), encoding="utf-8") as it:
-        return it.read()
-
-
-def file_of(crate: str, words: list[str]) -> str | None:
-    """Returns the spec file that the longest front of these words names, or None where they name the code's types."""
-    for count in range(len(words), 0, -1):
-        path = f"crates/{crate}/specs/{'/'.join(words[:count])}.antt"
-        if os.path.exists(os.path.join(TOP, path)):
-            return path
-    return None
-
-
-class File:
-    """A spec file: its definitions in their order, and the place of each name that it imports."""
-
-    def __init__(self, path: str) -> None:
-        text = text_of(path)
-        said = " ".join(it[3:] for it in itertools.takewhile(lambda it: it.startswith("-- "), text.splitlines()))
-        self.title = said.partition(". ")[0].rstrip(".")
-        self.imports: dict[str, Place] = {}
-        for crate, module, names in IMPORT.findall(re.sub(r"--[^\n]*", "", text)):
-            source = file_of(crate, module.split("."))
-            for name, _, alias in (it.strip().partition(" as ") for it in names.split(",")):
-                if source and name:
-                    self.imports[alias.strip() or name] = Place(source, name)
-        self.definitions: dict[str, Definition] = {}
-        self.read(text)
-
-    def read(self, text: str) -> None:
-        name, comment = None, ""
-        for line in text.splitlines():
-            found = DEFINITION.match(line)
-            if line.lstrip().startswith("-- "):
-                comment = f"{comment} {line.lstrip()[3:]}".strip()
-            elif found and found[1] not in self.definitions:
-                name = found[1]
-                self.definitions[name] = Definition(comment, 1, set(WORD.findall(line)))
-            elif line.strip().startswith(("module ", "use ", "pub use ")):
-                name = None
-            elif name and line.strip():
-                it = self.definitions[name]
-                words = it.words | set(WORD.findall(line.partition(" -- ")[0]))
-                self.definitions[name] = Definition(it.comment, it.lines + 1, words)
-            if not line.lstrip().startswith("-- "):
-                comment = ""
-
 
 class Definitions:
     """All spec files that were asked for, and which definitions each definition rests on."""
 
     def __init__(self) -> None:
-        self.files: dict[str, File] = {}
+        self.files: dict[str, SpecFile] = {}
 
-    def of_file(self, path: str) -> File:
+    def of_file(self, path: str) -> SpecFile:
         if path not in self.files:
-            self.files[path] = File(path)
+            self.files[path] = SpecFile(path)
         return self.files[path]
 
     def starts(self, file: str, name: str | None) -> list[Place]:

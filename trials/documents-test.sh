@@ -53,16 +53,16 @@ changed packaging/words.sh 's/ | trial)/)/' "packaging/words.sh: the commands th
 changed tools/gomtasil/embedded.py 's/, "trial"}/}/' "tools/gomtasil/embedded.py: the commands that may write are"
 changed pyproject.toml 's/^version = .*/version = "0"/' "pyproject.toml: the version is"
 
-# blessed NAME LABELS SCRIPT: where `index.py` is changed by this script of sed, it makes a page with other labels of
+# blessed NAME LABELS SCRIPT: where `sources.py` is changed by this script of sed, it makes a page with other labels of
 # this call, and the second count says which are right: these, which were read in the sources
 blessed() {
-    cp "$scratch/trials/index.py" "$scratch/kept" && sed -i "$3" "$scratch/trials/index.py" || exit 1
+    cp "$scratch/trials/sources.py" "$scratch/kept" && sed -i "$3" "$scratch/trials/sources.py" || exit 1
     if sh "$scratch/trials/documents.sh" > "$scratch/said" ||
         ! grep -qF "\`$1\` has the clauses $2, not" "$scratch/said"; then
         echo "trials/documents-test.sh: a page with other clauses of $1 was blessed: $(cat "$scratch/said")"
         exit 1
     fi
-    cp "$scratch/kept" "$scratch/trials/index.py" || exit 1
+    cp "$scratch/kept" "$scratch/trials/sources.py" || exit 1
     faults=$((faults + 1))
 }
 

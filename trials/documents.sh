@@ -7,6 +7,6 @@
 # checked.
 top=$(cd "$(dirname "$0")/.." && pwd)
 command -v python3 > /dev/null || { echo "trials/documents.sh: python3 is missing, so nothing was looked at"; exit 77; }
-python3 "$top/trials/documents.py" "$top" || exit 1
-cd "$top" && python3 trials/bare_numbers.py && python3 trials/definitions.py out/DEFINITIONS.md &&
+cd "$top" && python3 trials/documents.py && python3 trials/bare_numbers.py &&
+    python3 trials/definitions.py out/DEFINITIONS.md &&
     python3 trials/index.py out/INDEX.md && exec python3 trials/index_test.py out/INDEX.md

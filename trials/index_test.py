@@ -18,20 +18,37 @@ import collections
 import pathlib
 import re
 import sys
+from collections.abc import Iterator
+from typing import NamedTuple
 
 TOP = pathlib.Path(__file__).resolve().parent.parent
 BLANK = re.compile(r"""//[^\n]*|"(?:\\.|[^"\\])*"|b?'(?:\\.[^']*|[^'\\])'""", re.S)
 WORD = re.compile(r"\b(?:fn|impl|trait)\b")
 
-Found = collections.namedtuple("Found", "name owner is_public labels start end")
+Row = dict[str, str]
+Rows = dict[str, list[Row]]
 
 
-def blanked(text):
+class Found(NamedTuple):
+    """A function of a file that has been blanked, with the labels of its clauses."""
+
+    name: str
+    owner: str
+    is_public: bool
+    labels: list[str]
+    start: int
+    end: int
+
+
+Place = tuple[pathlib.Path, Found]
+
+
+def blanked(text: str) -> str:
     """The text with a space for each character of a comment, of a text and of a character in quotes."""
     return BLANK.sub(lambda it: re.sub(r"[^\n]", " ", it[0]), text)
 
 
-def closing(text, place):
+def closing(text: str, place: int) -> int:
     """The place after the bracket that closes the one at this place."""
     depth = 0
     while True:
@@ -41,9 +58,10 @@ def closing(text, place):
             return place
 
 
-def function_at(text, start):
+def function_at(text: str, start: int) -> tuple[int, list[str]]:
     """Where the function of the `fn` at this place ends, and the labels of its clauses."""
-    labels, place, keyword, label = [], start, "", ""
+    labels: list[str] = []
+    place, keyword, label = start, "", ""
     while place < len(text):
         if word := re.compile(r"\w+").match(text, place):
             if word[0] in ("ensures", "requires", "ghost"):
@@ -67,57 +85,58 @@ def function_at(text, start):
     raise ValueError(f"a function without an end at {start}")
 
 
-def owner_at(text, start):
+def owner_at(text: str, start: int) -> tuple[str, str, int]:
     """Of the `impl` or `trait` at this place: the name of the type or trait, and where its block ends."""
     opens = text.index("{", start)
     words = text[start:opens]
     while "<" in words and words != (fewer := re.sub(r"<[^<>]*>", "", words)):
         words = fewer
-    words = words.split(" where ")[0].split()
-    kind = "trait" if words[0] == "trait" else "impl of a trait" if "for" in words else "impl"
-    name = words[words.index("for") + 1] if "for" in words else words[1]
+    heads = words.split(" where ")[0].split()
+    kind = "trait" if heads[0] == "trait" else "impl of a trait" if "for" in heads else "impl"
+    name = heads[heads.index("for") + 1] if "for" in heads else heads[1]
     return kind, re.sub(r"\W", "", name.split("::")[-1]), closing(text, opens)
 
 
-def functions_in(text):
+def functions_in(text: str) -> list[Found]:
     """Each function of a file that has been blanked, in order; up to its tests."""
-    found, owner, end = [], ("", ""), 0
+    found, kind, owner, end = [], "", "", 0
     text = text.split("#[cfg(test)]")[0]
     place = 0
     while word := WORD.search(text, place):
         place = word.end()
         if word.start() >= end:
-            owner = ("", "")
+            kind, owner = "", ""
         line = text[text.rfind("\n", 0, word.start()) + 1:word.start()]
         if word[0] != "fn":
             if re.fullmatch(r"(pub(\(\w+\))? )?(unsafe )?", line):
-                *owner, end = owner_at(text, word.start())
+                kind, owner, end = owner_at(text, word.start())
             continue
         name = re.compile(r"\s+(\w+)").match(text, place)
         if name is None or not re.fullmatch(r"\s*(pub(\(\w+\))? )?(const )?(unsafe )?(extern\s+(\S+\s+)?)?", line):
             continue
         place, labels = function_at(text, name.end())
-        is_public = owner[0] == "trait" or (owner[0] != "impl of a trait" and bool(re.match(r"\s*pub ", line)))
-        found.append(Found(name[1], owner[1], is_public, labels, word.start(), place))
+        is_public = kind == "trait" or (kind != "impl of a trait" and bool(re.match(r"\s*pub ", line)))
+        found.append(Found(name[1], owner, is_public, labels, word.start(), place))
     return found
 
 
-def full_name(found):
+def full_name(found: Found) -> str:
     return f"{found.owner}::{found.name}" if found.owner else found.name
 
 
-def cells(line):
+def cells(line: str) -> list[str]:
     return [it.strip() for it in re.split(r"(?<!\\)\|", line)[1:-1]]
 
 
-def names_in(cell):
+def names_in(cell: str) -> list[str]:
     return re.findall(r"`([^`]*)`", cell)
 
 
-def page_of(path):
+def page_of(path: pathlib.Path) -> tuple[Rows, Rows]:
     """The rows of the page by crate: of calls, and of edits of others."""
-    crate, heads = "", []
-    calls, edits = collections.defaultdict(list), collections.defaultdict(list)
+    crate, heads = "", list[str]()
+    calls: Rows = collections.defaultdict(list)
+    edits: Rows = collections.defaultdict(list)
     for line in path.read_text(encoding="utf-8").splitlines():
         if line.startswith("## "):
             crate = line[3:]
@@ -128,14 +147,14 @@ def page_of(path):
     return calls, edits
 
 
-def look_at_calls(crate, rows, functions, root):
+def look_at_calls(crate: str, rows: list[Row], functions: list[Place], root: str) -> Iterator[str]:
     """The rows of a crate's calls against its public functions, as pairs of what is called so and how often."""
     public = [it for _, it in functions if it.is_public]
     wanted = collections.Counter((names_in(it["call"])[0], tuple(names_in(it["clauses"]))) for it in rows)
     there = collections.Counter((full_name(it), tuple(filter(None, it.labels))) for it in public)
     for (name, labels), count in (wanted - there).items():
-        true = [" ".join(filter(None, it.labels)) or "none" for it in public if full_name(it) == name]
-        true, told = " or ".join(true) or "(there is none)", " ".join(labels) or "none"
+        found = [" ".join(filter(None, it.labels)) or "none" for it in public if full_name(it) == name]
+        true, told = " or ".join(found) or "(there is none)", " ".join(labels) or "none"
         yield f"{crate}: `{name}` has the clauses {true}, not {told}"
     named = re.findall(r"pub (?:use|mod|trait|struct|enum|fn) ([^;{]*(?:\{[^}]*\})?)", root)
     handed_out = set(re.findall(r"\w+", " ".join(named)))
@@ -146,9 +165,9 @@ def look_at_calls(crate, rows, functions, root):
             yield f"{crate}: `{full_name(it)}` has no row"
 
 
-def look_at_edits(crate, calls, edits, functions):
+def look_at_edits(crate: str, calls: list[Row], edits: list[Row], functions: list[Place]) -> Iterator[str]:
     """The edits of a crate against the rows that name them."""
-    told = collections.defaultdict(set)
+    told: dict[str, set[str]] = collections.defaultdict(set)
     for row in calls:
         for edit in names_in(row["edits"]):
             told[edit].add(names_in(row["call"])[0])
@@ -172,14 +191,14 @@ def look_at_edits(crate, calls, edits, functions):
             yield f"{crate}: the edit `{edit}` doesn't change `{other}`"
 
 
-def main(page):
+def main(page: pathlib.Path) -> int:
     calls, edits = page_of(page)
-    faults, labels = [], 0
+    faults, labels = list[str](), 0
     crates = [it.parent.parent.name for it in sorted(TOP.glob("crates/*/src/lib.rt"))]
     crates = [it for it in crates if not it.startswith("lr_trials_")]
     faults += [f"{it}: no such library" for it in calls.keys() - set(crates)]
     for crate in crates:
-        functions = []
+        functions: list[Place] = []
         for path in sorted((TOP / "crates" / crate / "src").glob("*.rt")):
             functions += [(path, it) for it in functions_in(blanked(path.read_text(encoding="utf-8")))]
         root = blanked((TOP / "crates" / crate / "src/lib.rt").read_text(encoding="utf-8"))
@@ -188,7 +207,7 @@ def main(page):
         labels += sum(len(names_in(row["clauses"])) for row in calls[crate])
     for fault in faults:
         print(f"{page}: {fault}")
-    rows, others = (sum(map(len, it.values())) for it in (calls, edits))
+    rows, others = (sum(len(of_crate) for of_crate in it.values()) for it in (calls, edits))
     print(f"trials/index_test.py: {rows} calls with {labels} labels, {others} edits of others, {len(faults)} faults")
     return 1 if faults else 0
 
