@@ -3,12 +3,14 @@ import { at, element, save } from './elements.mjs';
 import { curveOf } from './curve.mjs';
 import { CODES, FORMS } from './forms.mjs';
 import { isMissionFile } from './given.mjs';
+import { Radio } from './radio.mjs';
 import { HEADER_BYTES, isShelf } from './shelf.mjs';
 import { isZip } from './zip.mjs';
 import { View } from './view.mjs';
 import { Viewer } from './viewer.mjs';
 import { LANGUAGES, TERMS, counted, fillPage, languageOf, nodesOf, rich, text, use, used, wordsOf } from './words.mjs';
 
+const STARTERS = ['sample', 'sample-radio', 'radio-start']; // buttons
 const SAMPLE_WRONG = 8; // wrong bytes in each word of the sample
 const SAMPLE_FRAMES = 470;
 const SAMPLE_SEED = 1957;
@@ -20,7 +22,7 @@ const NOTHING_RAN = 256; // the answer of a call that got no memory before its c
 
 /**
  * @typedef {import('./messages.mjs').Task} Task
- * @typedef {import('./messages.mjs').Told} Told
+ * @typedef {import('./messages.mjs').Told | import('./demodulate.mjs').RadioTold} Told
  * @typedef {import('./forms.mjs').Found} Found
  * @typedef {import('./forms.mjs').Code} Code
  * @typedef {import('./words.mjs').Key} Key
@@ -60,6 +62,7 @@ class Page {
     this.isReceived = false; // files come from a recording, and not from the sample or a file that has them
     this.isUnsaved = false; // something was received that can't be had again, and wasn't saved
     this.began = 0;
+    this.radio = new Radio(this);
   }
 
   // ---- words on how it goes
@@ -78,11 +81,11 @@ class Page {
   going(isGoing) {
     const { activeElement } = document;
     at('going').hidden = !isGoing;
-    for (const id of ['sample', 'file']) at(id).disabled = isGoing;
+    for (const id of [...STARTERS, 'file']) at(id).disabled = isGoing;
     at('progress').removeAttribute('value');
     at('time').textContent = '';
     // (focus would fall to the page where its button goes)
-    if (activeElement && ['sample', 'stop'].includes(activeElement.id)) at(isGoing ? 'stop' : 'state').focus();
+    if (activeElement && [...STARTERS, 'stop'].includes(activeElement.id)) at(isGoing ? 'stop' : 'state').focus();
   }
 
   // ---- workers
@@ -133,6 +136,7 @@ class Page {
 
   clear() {
     this.endWorkers();
+    this.radio.clear();
     this.view.clear();
     this.files = 0;
     Object.assign(this, { isSample: false, isReceived: false, isUnsaved: false });
@@ -167,7 +171,8 @@ class Page {
   }
 
   /** @param {Blob} file */
-  startRecording(file) {
+  async startRecording(file) {
+    if (await this.radio.takes(file)) return;
     this.file = file;
     this.say({ key: 'state.finding' });
     this.ask({ kind: 'which', file, chosen: this.isSample ? NOTHING_CHOSEN : chosen() });
@@ -215,7 +220,11 @@ class Page {
       this.say({ key: 'state.failed', values: { reason } }, true);
     },
     trouble: ({ text: reason }) => this.say({ key: 'state.trouble', values: { reason } }, true),
-    sample: ({ bytes }) => this.startRecording(new Blob([/** @type {any} */ (bytes)])),
+    sample: ({ bytes }) =>
+      this.radio.isDrawn ? this.radio.draw(bytes) : this.startRecording(new Blob([/** @type {any} */ (bytes)])),
+    modulated: ({ samples }) => this.radio.drawn(samples),
+    seen: (seen) => this.radio.seen(seen),
+    demodulated: (told) => this.radio.demodulated(told),
     tried: (told) => this.hearTried(told),
     trying: ({ form, code }) => {
       at('time').textContent = text('state.trying', { how: wordsFor(form, code) });
@@ -297,6 +306,7 @@ class Page {
     if (isEither) at('tries').append(element('li', { textContent: text('tries.both') }));
     if (found) return this.receive(found);
     this.going(false);
+    if (reason?.key === 'radio') this.radio.offer(this.file);
     return this.say(saidOfReason(/** @type {Reason} */ (reason)), true);
   }
 
@@ -431,6 +441,7 @@ function speak(code) {
   fillPage();
   fillLists();
   tellWorse();
+  page.radio.fill();
 }
 
 const page = new Page();

@@ -26,7 +26,7 @@ const COUNTS_BYTES = 24;
  * @typedef {{level: number, clipped: number, isLocked: boolean, ratio: number, carrier: number, clock: number}} Signal
  *   decibels, a part, whether a carrier is held, and of that Es/N0 in decibels, Hz, and parts of a million
  * @typedef {{input: Input, put: Put, told: (signal: Signal) => void}} RadioDevices
- * @typedef {{rate: number, symbols: number, rollOff: number, number: number}} RadioSettings number: of the samples' form
+ * @typedef {{rate: number, symbols: number, rollOff: number, number: number}} RadioSettings number: of the form
  * @typedef {{out?: number, shelf?: number, calls?: number}} Rooms
  * @typedef {{status: number, out: Uint8Array, err: string, shelf: Uint8Array}} Answer
  */

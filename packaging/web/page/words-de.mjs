@@ -202,6 +202,43 @@ export const GERMAN = {
   'view.help': 'Zum Verschieben ziehen. Zum Vergrößern das Mausrad drehen oder + und − drücken.',
   'view.pixel': 'Spalte {column}, Zeile {line}: {value} von {most}',
 
+  'radio.sample': 'Als Funksignal ausprobieren',
+  'radio.ask':
+    'Das ist eine Aufnahme des Funksignals selbst. Gib an, wie viele Abtastwerte sie pro Sekunde hat, und ' +
+    'klicke auf „Demodulieren“.',
+  'radio.rate': 'Abtastwerte pro Sekunde',
+  'radio.form': 'Form der Abtastwerte',
+  'radio.downlink': 'Signal',
+  'radio.start': 'Demodulieren',
+  'radio.u8': 'Bytes ohne Vorzeichen',
+  'radio.s8': 'Bytes mit Vorzeichen',
+  'radio.s16': '16-Bit-Ganzzahlen',
+  'radio.f32': '32-Bit-Gleitkommazahlen',
+  'radio.goes-hrit': 'GOES HRIT, {symbols} Symbole pro Sekunde',
+  'radio.gk2a-lrit': 'GK-2A LRIT, {symbols} Symbole pro Sekunde',
+  'radio.goes-lrit': 'GOES LRIT (bis 2018), {symbols} Symbole pro Sekunde',
+  'radio.drawing': 'Das Funksignal des Beispiels wird erzeugt …',
+  'radio.going':
+    'Aus dem Funksignal werden [symbol:Soft-Symbole] … ({form}, {rate} Abtastwerte pro Sekunde, {downlink})',
+  'radio.nothing':
+    'In dieser Aufnahme wurde kein Signal gefunden. Prüfe unten die Abtastwerte pro Sekunde, ihre Form und das Signal.',
+  'radio.refused':
+    'Mit dieser Rate lässt sich das Signal nicht demodulieren: Jedes Symbol braucht 1,3 bis 20 Abtastwerte.',
+  'radio.title': 'Das Funksignal',
+  'radio.locked':
+    'Ein Signal wird empfangen, {ratio} dB stärker als das Rauschen (Es/N0). Sein Träger liegt {carrier} Hz ' +
+    'neben der Mitte des Bandes.',
+  'radio.none': 'Bisher wurde kein Signal gefunden.',
+  'radio.clipped': '{percent} % der Werte stehen am Anschlag: Der Empfänger war zu laut eingestellt.',
+  'radio.constellation':
+    'Jeder Punkt ist ein [symbol]. Rechts bedeutet 1, links 0. Rauschen verstreut die Punkte; wo sich die ' +
+    'beiden Wolken treffen, werden Bits falsch.',
+  'radio.constellation.label': 'Konstellation: Punkte der neuesten Symbole',
+  'radio.spectrum':
+    'Stärke des Signals nach Frequenz, von {most} MHz unter der Mitte bis {most} MHz darüber. Der Buckel ist ' +
+    'der Satellit; daneben ist Rauschen.',
+  'radio.spectrum.label': 'Spektrum der neuesten Abtastwerte',
+
   'quality.title': 'Wie gut der Empfang war',
   'quality.none': 'Kein Datenblock ([frame]) wurde gefunden.',
   'quality.lost': 'Von {frames} Datenblöcken ([frame:Frames]) gingen {lost} verloren ({share} %).',

@@ -193,6 +193,41 @@ export const ENGLISH = {
   'view.help': 'Drag to move it. Scroll, or press + and −, to zoom.',
   'view.pixel': 'Column {column}, line {line}: {value} of {most}',
 
+  'radio.sample': 'Try it as a radio signal',
+  'radio.ask':
+    'This is a recording of the radio itself. Enter how many samples per second it has, then press “Demodulate”.',
+  'radio.rate': 'Samples per second',
+  'radio.form': 'Form of the samples',
+  'radio.downlink': 'Signal',
+  'radio.start': 'Demodulate',
+  'radio.u8': 'unsigned bytes',
+  'radio.s8': 'signed bytes',
+  'radio.s16': '16-bit integers',
+  'radio.f32': '32-bit floats',
+  'radio.goes-hrit': 'GOES HRIT, {symbols} symbols per second',
+  'radio.gk2a-lrit': 'GK-2A LRIT, {symbols} symbols per second',
+  'radio.goes-lrit': 'GOES LRIT (until 2018), {symbols} symbols per second',
+  'radio.drawing': 'Making the radio signal of the sample …',
+  'radio.going':
+    'Turning the radio signal into [symbol:soft symbols] … ({form}, {rate} samples per second, {downlink})',
+  'radio.nothing':
+    'No signal was found in this recording. Check the samples per second, their form, and the signal below.',
+  'radio.refused': "The signal can't be demodulated at this rate: each symbol needs 1.3 to 20 samples.",
+  'radio.title': 'The signal of the radio',
+  'radio.locked':
+    'A signal is received, {ratio} dB stronger than the noise (Es/N0). Its carrier is {carrier} Hz from the ' +
+    'middle of the band.',
+  'radio.none': 'No signal has been found yet.',
+  'radio.clipped': '{percent} % of the values are at their limit: the radio was set too loud.',
+  'radio.constellation':
+    'Each dot is one [symbol]. A dot on the right means 1, on the left 0. Noise spreads the dots; where the two ' +
+    'clouds meet, bits become wrong.',
+  'radio.constellation.label': 'Constellation: dots of the newest symbols',
+  'radio.spectrum':
+    'Strength of the signal by frequency, from {most} MHz below the middle to {most} MHz above it. The hump is ' +
+    'the satellite; around it is noise.',
+  'radio.spectrum.label': 'Spectrum of the newest samples',
+
   'quality.title': 'How well it was received',
   'quality.none': 'No block of data ([frame]) was found.',
   'quality.lost': 'Of {frames} blocks of data ([frame:frames]) {lost} were lost ({share} %).',

@@ -196,6 +196,41 @@ export const SPANISH = {
   'view.help': 'Arrastra para moverla. Gira la rueda, o pulsa + y −, para ampliar o reducir.',
   'view.pixel': 'Columna {column}, línea {line}: {value} de {most}',
 
+  'radio.sample': 'Probarlo como señal de radio',
+  'radio.ask':
+    'Esta es una grabación de la propia radio. Indica cuántas muestras por segundo tiene y pulsa «Demodular».',
+  'radio.rate': 'Muestras por segundo',
+  'radio.form': 'Formato de las muestras',
+  'radio.downlink': 'Señal',
+  'radio.start': 'Demodular',
+  'radio.u8': 'bytes sin signo',
+  'radio.s8': 'bytes con signo',
+  'radio.s16': 'enteros de 16 bits',
+  'radio.f32': 'números de coma flotante de 32 bits',
+  'radio.goes-hrit': 'GOES HRIT, {symbols} símbolos por segundo',
+  'radio.gk2a-lrit': 'GK-2A LRIT, {symbols} símbolos por segundo',
+  'radio.goes-lrit': 'GOES LRIT (hasta 2018), {symbols} símbolos por segundo',
+  'radio.drawing': 'Preparando la señal de radio del ejemplo …',
+  'radio.going':
+    'Convirtiendo la señal de radio en [symbol:símbolos blandos] … ({form}, {rate} muestras por segundo, {downlink})',
+  'radio.nothing':
+    'En esta grabación no se encontró ninguna señal. Revisa abajo las muestras por segundo, su formato y la señal.',
+  'radio.refused': 'A esta velocidad no se puede demodular la señal: cada símbolo necesita de 1,3 a 20 muestras.',
+  'radio.title': 'La señal de la radio',
+  'radio.locked':
+    'Se recibe una señal, {ratio} dB más fuerte que el ruido (Es/N0). Su portadora está a {carrier} Hz del ' +
+    'centro de la banda.',
+  'radio.none': 'Todavía no se ha encontrado ninguna señal.',
+  'radio.clipped': 'El {percent} % de los valores está en su límite: la radio tenía demasiada ganancia.',
+  'radio.constellation':
+    'Cada punto es un [symbol]. A la derecha significa 1, a la izquierda 0. El ruido dispersa los puntos; donde ' +
+    'se tocan las dos nubes hay bits erróneos.',
+  'radio.constellation.label': 'Constelación: puntos de los símbolos más recientes',
+  'radio.spectrum':
+    'Intensidad de la señal según la frecuencia, desde {most} MHz por debajo del centro hasta {most} MHz por ' +
+    'encima. La joroba es el satélite; alrededor hay ruido.',
+  'radio.spectrum.label': 'Espectro de las muestras más recientes',
+
   'quality.title': 'Qué tan bien se recibió',
   'quality.none': 'No se encontró ningún bloque de datos ([frame]).',
   'quality.lost': 'De {frames} bloques de datos ([frame:tramas]) se perdieron {lost} ({share} %).',

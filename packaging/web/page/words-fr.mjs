@@ -204,6 +204,43 @@ export const FRENCH = {
   'view.help': 'Fais-la glisser pour la déplacer. Tourne la molette, ou appuie sur + et −, pour zoomer.',
   'view.pixel': 'Colonne {column}, ligne {line} : {value} sur {most}',
 
+  'radio.sample': "L'essayer comme signal radio",
+  'radio.ask':
+    "C'est un enregistrement de la radio elle-même. Indiquez combien d'échantillons par seconde il contient, " +
+    'puis cliquez sur « Démoduler ».',
+  'radio.rate': 'Échantillons par seconde',
+  'radio.form': 'Format des échantillons',
+  'radio.downlink': 'Signal reçu',
+  'radio.start': 'Démoduler',
+  'radio.u8': 'octets non signés',
+  'radio.s8': 'octets signés',
+  'radio.s16': 'entiers de 16 bits',
+  'radio.f32': 'nombres à virgule de 32 bits',
+  'radio.goes-hrit': 'GOES HRIT, {symbols} symboles par seconde',
+  'radio.gk2a-lrit': 'GK-2A LRIT, {symbols} symboles par seconde',
+  'radio.goes-lrit': "GOES LRIT (jusqu'en 2018), {symbols} symboles par seconde",
+  'radio.drawing': "Préparation du signal radio de l'exemple …",
+  'radio.going':
+    'Le signal radio devient des [symbol:symboles souples] … ({form}, {rate} échantillons par seconde, {downlink})',
+  'radio.nothing':
+    "Aucun signal n'a été trouvé dans cet enregistrement. Vérifiez ci-dessous les échantillons par seconde, " +
+    'leur format et le signal.',
+  'radio.refused': 'À ce débit, le signal ne peut pas être démodulé : chaque symbole demande 1,3 à 20 échantillons.',
+  'radio.title': 'Le signal de la radio',
+  'radio.locked':
+    'Un signal est reçu, {ratio} dB plus fort que le bruit (Es/N0). Sa porteuse est à {carrier} Hz du milieu de ' +
+    'la bande.',
+  'radio.none': "Aucun signal n'a encore été trouvé.",
+  'radio.clipped': '{percent} % des valeurs sont à leur limite : le gain de la radio était trop élevé.',
+  'radio.constellation':
+    'Chaque point est un [symbol]. À droite il signifie 1, à gauche 0. Le bruit disperse les points ; là où les ' +
+    'deux nuages se touchent, des bits deviennent faux.',
+  'radio.constellation.label': 'Constellation : points des symboles les plus récents',
+  'radio.spectrum':
+    'Intensité du signal selon la fréquence, de {most} MHz sous le milieu à {most} MHz au-dessus. La bosse est ' +
+    "le satellite ; autour, c'est du bruit.",
+  'radio.spectrum.label': 'Spectre des échantillons les plus récents',
+
   'quality.title': 'Qualité de la réception',
   'quality.none': "Aucun bloc de données ([frame]) n'a été trouvé.",
   'quality.lost': 'Sur {frames} blocs de données ([frame:trames]), {lost} ont été perdus ({share} %).',

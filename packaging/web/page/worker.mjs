@@ -1,11 +1,13 @@
-// The Worker: one with `lr_live` receives, and one with both modules keeps the shelf.
+// The Worker: one with `lr_live` receives, one with `lr_radio` demodulates, and one with `lr_run` and `lr_live` keeps
+// the shelf.
+import { demodulate, modulate } from './demodulate.mjs';
 import { Keeper } from './keeper.mjs';
 import { judge, receive } from './receiver.mjs';
 import { Station } from './station.mjs';
 
 /**
- * @typedef {import('./messages.mjs').Task} Task
- * @typedef {import('./messages.mjs').Told} Told
+ * @typedef {import('./messages.mjs').Task | import('./demodulate.mjs').RadioTask} Task
+ * @typedef {import('./messages.mjs').Told | import('./demodulate.mjs').RadioTold} Told
  */
 
 /** @type {Station} */
@@ -56,6 +58,8 @@ const TASKS = {
   saveFile: ({ number, member }) => keeper.saveFile(number, member),
   saveAll: () => keeper.saveAll(),
   saveShelf: () => keeper.saveShelf(),
+  demodulate: ({ file, how }) => demodulate(station, file, how, tell),
+  modulate: ({ symbols }) => modulate(symbols, tell),
 };
 
 /** @param {{data: Task}} event */

@@ -1,0 +1,108 @@
+// What a Worker with `lr_radio` does: it makes soft symbols of a recording of complex samples, and tells what the
+// signal looks like as it goes.
+import { FileInput } from './devices.mjs';
+import { DOWNLINKS, SAMPLE_FORMS, samplesOf } from './iq.mjs';
+import { modulated } from './modulate.mjs';
+import { SPECTRUM_SAMPLES, spectrumOf } from './spectrum.mjs';
+
+const LOOK_MILLISECONDS = 150; // between two looks at the signal
+const MOST_POINTS = 1024; // of a constellation
+
+/**
+ * @typedef {import('./station.mjs').Station} Station
+ * @typedef {import('./station.mjs').Signal} Signal
+ * @typedef {import('./iq.mjs').Iq & {downlink: string}} How
+ * @typedef {{kind: 'demodulate', file: Blob, how: How} | {kind: 'modulate', symbols: Uint8Array}} RadioTask
+ * @typedef {{points: Int8Array, spectrum: Float32Array, signal: Signal | null}} Sight points: of the constellation, as
+ *   pairs
+ * @typedef {{kind: 'seen', read: number, size: number} & Sight} Seen
+ * @typedef {{kind: 'demodulated', status: number, fault: string, symbols: Blob}} Demodulated
+ * @typedef {Seen | Demodulated | {kind: 'modulated', samples: Blob}} RadioTold
+ */
+
+/** What is seen of the signal, now and then. */
+class Look {
+  /** @type {Signal | null} */
+  signal = null;
+  last = 0;
+  samples = new Uint8Array(0); // the first ones of the block
+  across = new Int8Array(0);
+
+  /** @param {string} form */
+  constructor(form) {
+    this.form = form;
+    this.bytes = SPECTRUM_SAMPLES * SAMPLE_FORMS[form].bytes;
+  }
+
+  isDue() {
+    return performance.now() - this.last >= LOOK_MILLISECONDS;
+  }
+
+  /**
+   * Keeps samples that were read, where it is time to look at some.
+   * @param {Uint8Array} bytes
+   */
+  keep(bytes) {
+    if (this.isDue() && bytes.length >= this.samples.length) this.samples = bytes.slice(0, this.bytes);
+  }
+
+  /**
+   * @param {Int8Array} symbols
+   * @returns {Sight}
+   */
+  seen(symbols) {
+    this.last = performance.now();
+    const count = Math.min(MOST_POINTS, symbols.length, this.across.length);
+    const points = Int8Array.from({ length: 2 * count }, (_, at) => (at % 2 ? this.across : symbols)[at >> 1]);
+    const spectrum = spectrumOf(samplesOf(this.samples, this.form, SPECTRUM_SAMPLES));
+    this.samples = new Uint8Array(0);
+    return { points, spectrum, signal: this.signal };
+  }
+}
+
+/** @param {Uint8Array} bytes */
+const signed = (bytes) => new Int8Array(bytes.buffer, bytes.byteOffset, bytes.length);
+
+/**
+ * Demodulates a recording.
+ * @param {Station} station
+ * @param {Blob} file
+ * @param {How} how
+ * @param {(message: RadioTold) => void} tell
+ */
+export function demodulate(station, file, how, tell) {
+  const { number, bytes: unit } = SAMPLE_FORMS[how.form];
+  const { symbols, rollOff } = DOWNLINKS[how.downlink];
+  const look = new Look(how.form);
+  /** @type {Blob[]} */
+  const parts = []; // (a browser keeps them on a disk where they are many)
+  let [read, size] = [0, 0];
+  const whole = file.slice(how.start, how.end);
+  const source = new FileInput(whole, (bytes) => bytes, unit, (...far) => ([read, size] = far));
+  const take = (/** @type {Uint8Array} */ into) => {
+    const count = source.take(into);
+    look.keep(into.subarray(0, count));
+    return count;
+  };
+  const put = (/** @type {number} */ output, /** @type {Uint8Array} */ bytes) => {
+    if (output === 2) look.across = signed(bytes);
+    else {
+      if (bytes.length) parts.push(new Blob([/** @type {any} */ (bytes)]));
+      if (look.isDue()) tell({ kind: 'seen', read, size, ...look.seen(signed(bytes)) });
+    }
+  };
+  const told = (/** @type {Signal} */ signal) => (look.signal = signal);
+  const status = station.radio({ rate: how.rate, symbols, rollOff, number }, { input: { take }, put, told });
+  const fault = station.fault ? String(station.fault) : '';
+  tell({ kind: 'demodulated', status, fault, symbols: new Blob(parts) });
+}
+
+/**
+ * Draws the signal of symbols.
+ * @param {Uint8Array} symbols
+ * @param {(message: RadioTold) => void} tell
+ */
+export function modulate(symbols, tell) {
+  const parts = [...modulated(symbols)];
+  tell({ kind: 'modulated', samples: new Blob(/** @type {any} */ (parts)) });
+}
