@@ -6,10 +6,10 @@
 # stop, and what it asks of the network. Then the example of a live source. What they look like goes to $SHOTS, where
 # that is a folder.
 # Usage: trials/web.sh. Needs rt, python3 and Node 20 or later (node); chromium, firefox-esr, tsc and Pillow for some
-# parts each, and some 2 GB of disk. $LRITSTATION may name the built program, and $PAGE a folder with receiver.html and
-# the modules (as MODULES=FOLDER packaging/web.sh FOLDER leaves it), which is then not made. TIMES in the environment
-# says how often the recording stands in the long one, 100 by default, and PATIENCE how many times as long a browser is
-# waited for, for a machine with other load.
+# parts each, and some 2 GB of disk. $LRITSTATION and $LRITDEMOD may name the built programs, and $PAGE a folder with
+# receiver.html and the modules (as MODULES=FOLDER packaging/web.sh FOLDER leaves it), which is then not made. TIMES in
+# the environment says how often the recording stands in the long one, 100 by default, and PATIENCE how many times as
+# long a browser is waited for, for a machine with other load.
 top=$(cd "$(dirname "$0")/.." && pwd)
 for tool in python3 node; do
     command -v $tool > /dev/null || { echo "trials/web.sh: $tool is missing, so nothing was tried"; exit 77; }
@@ -75,6 +75,11 @@ node="node --no-warnings --experimental-wasm-memory64"
 $node -e '' 2> /dev/null || node="node --no-warnings"
 # shellcheck disable=SC2086 # (they are several words)
 part $node "$top/trials/web/same.mjs" "$LRITSTATION" "$scratch/files" "$PAGE"
+if [ -z "${LRITDEMOD-}" ]; then
+    LRITDEMOD=$("$top/packaging/demodulator.sh" 2> "$scratch/build.log") || fail "$(cat "$scratch/build.log")"
+fi
+# shellcheck disable=SC2086
+part $node "$top/trials/web/radio.mjs" "$LRITDEMOD" "$scratch/files" "$PAGE"
 browsers=
 command -v chromium > /dev/null && browsers=chromium || skipped="$skipped Chromium;"
 command -v firefox-esr > /dev/null && browsers="$browsers firefox" || skipped="$skipped Firefox;"

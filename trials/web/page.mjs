@@ -97,6 +97,75 @@ async function chosen(browser) {
   check((await displayOf(browser, 'save-recording')) === 'none', "a recording of one's own isn't offered as the sample");
 }
 
+/** The head of a WAV of two channels of unsigned bytes. */
+function waveHead(rate, length) {
+  const head = Buffer.alloc(44);
+  const chunks = { RIFF: [0, length + 36], 'fmt ': [12, 16], data: [36, length] };
+  for (const [name, [at, size]] of Object.entries(chunks)) head.writeUInt32LE(size, head.write(name, at) + at);
+  head.write('WAVE', 8);
+  [1, 2].forEach((it, at) => head.writeUInt16LE(it, 20 + 2 * at)); // whole numbers, two channels
+  [rate, 2 * rate].forEach((it, at) => head.writeUInt32LE(it, 24 + 4 * at));
+  [2, 8].forEach((it, at) => head.writeUInt16LE(it, 32 + 2 * at)); // bytes of a sample, bits of a number
+  return head;
+}
+
+/** The samples of README's recording, by numpy; none where that is missing. */
+function madeSamples() {
+  const input = fs.readFileSync(place('recording'));
+  const cwd = new URL('../../bench', import.meta.url).pathname;
+  for (const python of ['python3', '/usr/bin/python3']) {
+    const done = spawnSync(python, ['-B', '-m', 'demod.channel', 'u8'], { input, cwd, maxBuffer: 1 << 28 });
+    if (done.status === 0) return done.stdout;
+  }
+  return null;
+}
+
+/** How many colours a canvas shows. */
+const coloursOf = (browser, id) =>
+  browser.evaluate(`(() => {
+    const canvas = document.getElementById('${id}');
+    const { data } = canvas.getContext('2d').getImageData(0, 0, canvas.width, canvas.height);
+    return new Set(new Uint32Array(data.buffer)).size;
+  })()`);
+
+const LOCKED = /^A signal is received, \d\.\d dB stronger than the noise .* Its carrier is [67],\d{3} Hz /;
+
+/** A recording of samples, to the picture. */
+async function demodulated(browser, name, fill = () => {}) {
+  await given(browser, place(name), 300);
+  await fill();
+  await browser.until('document.body.dataset.settled', 300);
+  await says(browser, ALL);
+  await says(browser, LOCKED, 'radio-words');
+  for (const id of ['radio-constellation', 'radio-spectrum']) check((await coloursOf(browser, id)) > 2, `${id}: empty`);
+}
+
+/** The sample as a radio's signal, in two clicks to a saved picture; then recordings of samples, and one of noise. */
+async function radio(browser) {
+  await browser.click('#sample-radio'); // 1
+  await browser.until('document.body.dataset.settled', 300);
+  await says(browser, ALL);
+  await browser.click('#pictures button'); // 2: Save as PNG
+  check(pixelsOf((await browser.saved(/\.png$/)).bytes).equals(earth()), "the saved picture is the program's");
+  await browser.picture(path.join(shots, `${browser.name.toLowerCase()}-radio.png`));
+  fs.copyFileSync(place('noise'), place('noise_2400000Hz.cu8'));
+  await given(browser, place('noise_2400000Hz.cu8'));
+  await says(browser, /^No signal was found in this recording\./);
+  const made = madeSamples();
+  if (!made) return 'no other recordings of samples (numpy is missing)';
+  fs.writeFileSync(place('samples_2400000Hz.cu8'), made);
+  fs.writeFileSync(place('samples.wav'), Buffer.concat([waveHead(2_400_000, made.length), made]));
+  fs.writeFileSync(place('samples'), made);
+  await demodulated(browser, 'samples_2400000Hz.cu8');
+  await demodulated(browser, 'samples.wav');
+  await demodulated(browser, 'samples', async () => {
+    await says(browser, /^This seems to be a recording of the radio itself/);
+    await browser.evaluate('delete document.body.dataset.settled');
+    await browser.click('#radio-start');
+  });
+  return '';
+}
+
 /** Images that lack packets are filled in, and captioned so; without the setting they don't appear. */
 async function lacking(browser) {
   const recording = fs.readFileSync(place('lacking'));
@@ -462,7 +531,7 @@ for (const name of names) {
   const browser = await kinds[name].start();
   const isChromium = name === 'chromium';
   try {
-    const shown = [sample, chosen, lacking, shelf, zip, forms, others, settings, hostile, strips, screens, keyboard];
+    const shown = [sample, chosen, radio, lacking, shelf, zip, forms, others, settings, hostile, strips, screens, keyboard];
     const all = [commands, ...shown, served, live, long];
     const parts = all.filter((it) => !process.env.PARTS || process.env.PARTS.split(' ').includes(it.name));
     for (const part of parts) {
