@@ -10,7 +10,7 @@
 # are those of a recording, 150 by default. $LRITDEMOD and $LRITSTATION may name built programs; else rt builds them.
 # Needs python3-numpy, and python3-matplotlib for the plot. The status is 1 where a goal isn't met.
 set -e
-top=$(cd "$(dirname "$0")/.." && pwd)
+. "$(dirname "$0")/../trials/lib.sh"
 plot=
 if [ "${1-}" = --plot ]; then
     plot=$2
@@ -18,20 +18,11 @@ if [ "${1-}" = --plot ]; then
 fi
 root=${1-}
 frames=${2:-150}
-for python in python3 /usr/bin/python3 none; do
-    "$python" -c 'import numpy' 2> /dev/null && break
-done
-[ "$python" != none ] || { echo "bench/demod.sh: python3-numpy is missing"; exit 77; }
-scratch=$(mktemp -d)
-trap 'rm -rf "$scratch"' EXIT
-if [ -z "${LRITSTATION-}" ]; then
-    "$top/lritstation" - frames < /dev/null > "$scratch/build.log" 2>&1 || { cat "$scratch/build.log"; exit 1; }
-    LRITSTATION=$top/crates/lr_program/out/lr_program
-fi
-if [ -z "${LRITDEMOD-}" ]; then
-    LRITDEMOD=$("$top/packaging/demodulator.sh" 2> "$scratch/build.log") || { cat "$scratch/build.log"; exit 1; }
-fi
-export PYTHONPATH="$top/bench" PYTHONDONTWRITEBYTECODE=1
+python_with numpy || nothing "python3-numpy is missing"
+scratch_folder
+find_program
+find_demodulator
+export PYTHONPATH="$top/bench"
 # measure PART [WORDS..]
 measure() {
     part=$1

@@ -13,31 +13,16 @@
 # package.sh. Needs rt, python3, qemu, and the packages that packaging/arm64.sh names; a part may need more and says so
 # where that is missing. Where something was skipped, the last line names it, and the status is 77, which is no pass.
 # $LRITSTATION may name the built program; those with -v3 and -arm64 after its name stand beside it.
-top=$(cd "$(dirname "$0")/.." && pwd)
+. "$(dirname "$0")/lib.sh"
 # shellcheck source-path=SCRIPTDIR source=../packaging/arm64/tools.sh
 . "$top/packaging/arm64/tools.sh"
-
-nothing() {
-    echo "trials/arm64.sh: $1, so nothing was tried"
-    exit 77
-}
-
 qemu=$(command -v qemu-aarch64-static || command -v qemu-aarch64) ||
     nothing "qemu is missing (apt-get install qemu-user-static)"
-for tool in rt python3; do
-    command -v $tool > /dev/null || nothing "$tool is missing"
-done
+needs rt python3
 missing=$(missing_packages | xargs echo)
 [ -z "$missing" ] || nothing "the C library for arm64 is missing (apt-get install $missing)"
 kit=$(rt doc) && kit=${kit%/*} || exit 1
-scratch=$(mktemp -d) || exit 1
-trap 'rm -rf "$scratch"' EXIT
-trap 'exit 130' HUP INT TERM
-
-fail() {
-    echo "trials/arm64.sh: $1"
-    exit 1
-}
+scratch_folder
 
 # Both kinds of programs, made where they aren't named and aren't there, or are older.
 find_programs() {

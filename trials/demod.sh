@@ -5,16 +5,10 @@
 # it loses.
 # Usage: trials/demod.sh [short]. Needs python3, and rt where $LRITDEMOD and $LRITSTATION name no built programs; gcc
 # for the last part.
-top=$(cd "$(dirname "$0")/.." && pwd)
-scratch=$(mktemp -d) || exit 1
-trap 'rm -rf "$scratch"' EXIT
-if [ -z "${LRITSTATION-}" ]; then
-    "$top/lritstation" - frames < /dev/null > "$scratch/build.log" 2>&1 || { cat "$scratch/build.log"; exit 1; }
-    LRITSTATION=$top/crates/lr_program/out/lr_program
-fi
-if [ -z "${LRITDEMOD-}" ]; then
-    LRITDEMOD=$("$top/packaging/demodulator.sh" 2> "$scratch/build.log") || { cat "$scratch/build.log"; exit 1; }
-fi
+. "$(dirname "$0")/lib.sh"
+scratch_folder
+find_program
+find_demodulator
 refuse=
 if [ "${1-}" != short ]; then
     if command -v gcc > /dev/null; then
@@ -24,13 +18,9 @@ if [ "${1-}" != short ]; then
         echo "gcc is missing: no memory was refused"
     fi
 fi
-export PYTHONDONTWRITEBYTECODE=1
-for python in python3 /usr/bin/python3 none; do
-    "$python" -c 'import numpy' 2> /dev/null && break
-done
-if [ "$python" = none ]; then
-    echo "numpy is missing: the tests of bench/demod weren't run"
-else
+if python_with numpy; then
     (cd "$top/bench" && "$python" -m unittest -q demod.test_demod) || exit 1
+else
+    echo "numpy is missing: the tests of bench/demod weren't run"
 fi
 python3 "$top/trials/demod.py" "$LRITDEMOD" "$LRITSTATION" ${refuse:+"$refuse"}

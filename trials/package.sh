@@ -15,49 +15,30 @@
 # as ARCHITECTURE-SUITE (amd64-bookworm), of which a copy is taken; $REFUSE_LIBRARY is for memory.sh. $LIBRARY may name
 # the folder of the library, as for packaging/debian.sh; with one, pkg-config and a C compiler are needed for a case.
 # shellcheck disable=SC2012,SC2016 # (the names are those that are made here; a variable is one of an inner shell)
-top=$(cd "$(dirname "$0")/.." && pwd)
+. "$(dirname "$0")/lib.sh"
 suite=${1:-bookworm} architecture=${2:-amd64}
 shift $(($# < 2 ? $# : 2))
-for tool in dpkg-deb git python3 xz; do
-    command -v "$tool" > /dev/null || { echo "trials/package.sh: $tool is missing, so nothing was tried"; exit 77; }
-done
-if [ -z "${LRITSTATION-}" ]; then
-    "$top/lritstation" - frames < /dev/null > /dev/null || exit 1
-    LRITSTATION=$top/crates/lr_program/out/lr_program
-fi
+needs dpkg-deb git python3 xz
+scratch_folder
+# (a system may have mounts of this machine)
+trap 'rm -rf --one-file-system "$scratch"' EXIT
+find_program
 if [ "$architecture" = arm64 ]; then
     if [ ! -x "$LRITSTATION-arm64" ] || ! grep -q '^flags: .*F' /proc/sys/fs/binfmt_misc/qemu-aarch64 2> /dev/null; then
-        echo "trials/package.sh: there is no program for arm64, or this machine starts none, so nothing was tried"
-        exit 77
+        nothing "there is no program for arm64, or this machine starts none"
     fi
     export QEMU_LD_PREFIX=/usr/aarch64-linux-gnu
 elif [ ! -x "$LRITSTATION-v3" ]; then
-    echo "trials/package.sh: there is no program for x86-64-v3, so nothing was tried"
-    exit 77
+    nothing "there is no program for x86-64-v3"
 fi
 # (another clone has no library of its own)
 library=$top/out/library
 [ "$architecture" = amd64 ] || library=$library-$architecture
-export LRITSTATION LIBRARY="${LIBRARY:-$library}"
+export LIBRARY="${LIBRARY:-$library}"
 unset SOURCE_DATE_EPOCH LRITSTATION_CPU
-scratch=$(mktemp -d) || exit 1
-trap 'rm -rf --one-file-system "$scratch"' EXIT
-trap 'exit 130' HUP INT TERM
 cd "$scratch" || exit 1
-cases=0
 installed_there=''
 skipped=''
-
-fail() {
-    echo "trials/package.sh: $1"
-    exit 1
-}
-
-# is WHAT GOT WANTED
-is() {
-    [ "$2" = "$3" ] || fail "$1 is '$2', not '$3'"
-    cases=$((cases + 1))
-}
 
 # same ONE OTHER: these files have the same bytes
 same() {
@@ -114,9 +95,9 @@ try_choice() {
     xz -dc first/*.tar.xz | tar -C "un packed" -xf - || fail "the archive"
     installed=$(echo "$PWD/un packed/"gomtasil-*)
     cp -R "$installed" away
-    for name in v2 v3 arm64; do
-        [ -x "away/lib/gomtasil/lritstation-$name" ] || continue
-        printf '#!/bin/sh\necho "%s $*" $(cat)\necho error >&2\nexit 7\n' $name > away/lib/gomtasil/lritstation-$name
+    for level in v2 v3 arm64; do
+        [ -x "away/lib/gomtasil/lritstation-$level" ] || continue
+        printf '#!/bin/sh\necho "%s $*" $(cat)\necho error >&2\nexit 7\n' $level > away/lib/gomtasil/lritstation-$level
     done
     sed -i "s,^loader=.*,loader=$PWD/loader," away/bin/lritstation
     if [ "$architecture" = arm64 ]; then
@@ -214,7 +195,8 @@ try_pages() {
         [ -e "$installed/$path" ] || fail "the manual page names $path, which isn't installed"
         cases=$((cases + 1))
     done
-    is "the statuses on the manual page" "$(sed -n '/^.SH "EXIT STATUS"/,/^.SH "THE/p' plain | grep -c '^[0-9]\{1,\}@')" \
+    is "the statuses on the manual page" \
+        "$(sed -n '/^.SH "EXIT STATUS"/,/^.SH "THE/p' plain | grep -c '^[0-9]\{1,\}@')" \
         "$(sed -n '/^## Statuses/,/^## The/p' "$top/docs/FORMATS.md" | grep -c '^| [0-9]')"
     is "paths of a checkout on the manual page" "$(grep -cE '(^|[^/])(examples|docs)/' page)" 0
     gzip -dc "$share/man/man1/gomtasil.1.gz" > tool-page || fail "the manual page of gomtasil"
@@ -231,10 +213,10 @@ try_pages() {
     done
     lacks bash "its completions were only read" ||
         is "what bash completes" "$(completed)" "receive render repack symbols blocks "
-    for name in lritstation gomtasil; do
-        lacks zsh "its completions were only read" || zsh -n "$share/zsh/site-functions/_$name" || fail "zsh"
+    for program in lritstation gomtasil; do
+        lacks zsh "its completions were only read" || zsh -n "$share/zsh/site-functions/_$program" || fail "zsh"
         lacks fish "its completions were only read" ||
-            fish -n "$share/fish/vendor_completions.d/$name.fish" || fail "fish"
+            fish -n "$share/fish/vendor_completions.d/$program.fish" || fail "fish"
     done
     is "what the archive's tool says" "$("$installed/bin/gomtasil" --help | head -n 1)" \
         "usage: gomtasil [-h] [--version] COMMAND ..."
@@ -347,6 +329,41 @@ EXAMPLE
         END { end() }' "$top/README.md"
 }
 
+# radio_lines: README's lines from a radio to the shelf
+radio_lines() {
+    awk '
+        $0 == "## From a radio" { on = 1; next }
+        /^## / { on = 0 }
+        on && /^    / { print }' "$top/README.md"
+}
+
+# README's lines from a radio to the picture, in the system, where samples of its recording take the radio's place. The
+# picture is that of its symbols.
+try_radio() {
+    if [ ! -x root/usr/bin/lritdemod ] || ! python_with numpy; then
+        skipped="$skipped radio (lritdemod, or numpy here)"
+        return
+    fi
+    (cd "$top/bench" && "$python" -m demod.channel u8) < root/example/recording > root/example/samples || fail "samples"
+    printf '#!/bin/sh\nexec cat /example/samples\n' > root/usr/local/bin/rtl_sdr
+    chmod 755 root/usr/local/bin/rtl_sdr
+    {
+        echo 'set -e; cd /example; rm -r my.shelf; mv pictures pictures-before'
+        echo 'lritstation my.shelf init 1000000 > /tmp/said'
+        radio_lines
+        grep -h '^    \$ gomtasil pictures ' "$top/README.md" | cut -c 7-
+    } > root/example/radio
+    chroot --userspec=nobody:nogroup root sh /example/radio > said 2>&1 < /dev/null || fail "from a radio: $(cat said)"
+    grep -q 'lritdemod: .* locked, Es/N0 [56]\.[0-9] dB' said || fail "what is said of the signal: $(cat said)"
+    # (drawn symbols come after the last frame, and the lock looks for one more there)
+    is "the frames from a radio" "$(grep -o 'restored 470 lost 1 packets 54 files 6 ' said)" \
+        "restored 470 lost 1 packets 54 files 6 "
+    for picture in root/example/pictures-before/*.png; do
+        same "$picture" "root/example/pictures/${picture##*/}"
+    done
+    rm root/usr/local/bin/rtl_sdr
+}
+
 # files: what stands in the system, without what lasts no start, and what apt and dpkg note for themselves
 files() { find root -xdev | grep -v '^root/\(run\|tmp\|var/lib/dpkg\|var/lib/apt\|var/log\|var/cache\)/' | sort; }
 
@@ -370,15 +387,15 @@ try_others() {
     for trial; do
         # shellcheck disable=SC2086 # (words of a trial)
         set -- $trial
-        name=$1
+        trial=$1
         shift
         in_system env PATH=/usr/sbin:/usr/bin:/sbin:/bin PYTHONDONTWRITEBYTECODE=1 \
             LRITSTATION="/usr/lib/gomtasil/lritstation-$usual" ${REFUSE_LIBRARY:+REFUSE_LIBRARY=/top/refuse.so} \
-            sh "/top/trials/$name.sh" "$@" < /dev/null
+            sh "/top/trials/$trial.sh" "$@" < /dev/null
         case $? in
         0) cases=$((cases + 1)) ;;
-        77) skipped="$skipped $name" ;;
-        *) fail "$name.sh failed in $suite" ;;
+        77) skipped="$skipped $trial" ;;
+        *) fail "$trial.sh failed in $suite" ;;
         esac
     done
     rm -rf root/top
@@ -402,6 +419,7 @@ try_system() {
     same my.shelf root/example/my.shelf
     is "the page and the pictures" \
         "$(cd root/example && ls page/index.html earth.pgm pictures/*.png | wc -l)" 3
+    try_radio
     for file in root/usr/share/doc/gomtasil/docs/GLOSSARY.md root/usr/share/doc/gomtasil/CONTRIBUTING.md; do
         [ -f "$file" ] || fail "README names $file"
         cases=$((cases + 1))

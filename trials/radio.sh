@@ -4,20 +4,11 @@
 # bench/demod/gnuradio_usual.py. `receive` of the soft symbols gives each file with its bytes. Under one line code the
 # samples also come as unsigned bytes.
 # Usage: trials/radio.sh. Needs rt and python3.
-top=$(cd "$(dirname "$0")/.." && pwd)
-for python in python3 /usr/bin/python3 none; do
-    "$python" -c 'import gnuradio' 2> /dev/null && break
-done
-[ "$python" != none ] || { echo "GNU Radio isn't installed: nothing was tried"; exit 77; }
-scratch=$(mktemp -d) || exit 1
-trap 'rm -rf "$scratch"' EXIT
-if [ -z "${LRITSTATION-}" ]; then
-    "$top/lritstation" - frames < /dev/null > "$scratch/build.log" 2>&1 || { cat "$scratch/build.log"; exit 1; }
-    LRITSTATION=$top/crates/lr_program/out/lr_program
-fi
-if [ -z "${LRITDEMOD-}" ]; then
-    LRITDEMOD=$("$top/packaging/demodulator.sh" 2> "$scratch/build.log") || { cat "$scratch/build.log"; exit 1; }
-fi
+. "$(dirname "$0")/lib.sh"
+python_with gnuradio || nothing "GNU Radio isn't installed"
+scratch_folder
+find_program
+find_demodulator
 station=$LRITSTATION
 cd "$scratch" || exit 1
 

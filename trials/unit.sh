@@ -14,18 +14,12 @@
 # station.service and so on. Needs root, systemd-nspawn, and rt where $LRITSTATION names no built program;
 # $LRITDEMOD may name the built demodulator. It takes some eight minutes. One run at a time: two of them would meet in
 # one control group.
-top=$(cd "$(dirname "$0")/.." && pwd)
-if [ -z "${1-}" ]; then
-    echo "trials/unit.sh: skipped, as no folder with a Debian system is named"
-    exit 77
-fi
+. "$(dirname "$0")/lib.sh"
+[ -n "${1-}" ] || nothing "no folder with a Debian system is named"
 root=$(cd "$1" && pwd) || exit 1
-command -v systemd-nspawn > /dev/null ||
-    { echo "trials/unit.sh: systemd-nspawn is missing, so nothing was tried"; exit 77; }
-if [ -z "${LRITSTATION-}" ]; then
-    "$top/lritstation" - frames < /dev/null > /dev/null || exit 1
-    LRITSTATION=$top/crates/lr_program/out/lr_program
-fi
+needs systemd-nspawn
+scratch_folder
+find_program
 clone=$root/root/gomtasil
 rm -rf "$clone" "$root/root/said"
 mkdir -p "$clone/crates/lr_program/out" "$clone/docs"

@@ -130,12 +130,13 @@ const coloursOf = (browser, id) =>
 
 const LOCKED = /^A signal is received, \d\.\d dB stronger than the noise .* Its carrier is [67],\d{3} Hz /;
 
-/** A recording of samples, to the picture. */
+/** A recording of samples, to the picture. (Drawn symbols come after its last frame, and one more is looked for.) */
 async function demodulated(browser, name, fill = () => {}) {
   await given(browser, place(name), 300);
   await fill();
   await browser.until('document.body.dataset.settled', 300);
-  await says(browser, ALL);
+  await says(browser, /^Done\. 470 of 471 blocks of data \(frames\) were received; .* 6 files\.$/);
+  await says(browser, /640 × 640/, 'pictures');
   await says(browser, LOCKED, 'radio-words');
   for (const id of ['radio-constellation', 'radio-spectrum']) check((await coloursOf(browser, id)) > 2, `${id}: empty`);
 }
