@@ -128,7 +128,7 @@ const coloursOf = (browser, id) =>
     return new Set(new Uint32Array(data.buffer)).size;
   })()`);
 
-const LOCKED = /^A signal is received, \d\.\d dB stronger than the noise .* Its carrier is [67],\d{3} Hz /;
+const LOCKED = /^A signal is received, \d(\.\d)? dB stronger than the noise .* Its carrier is [67],\d{3} Hz /;
 
 /** A recording of samples, to the picture. (Drawn symbols come after its last frame, and one more is looked for.) */
 async function demodulated(browser, name, fill = () => {}) {

@@ -4,7 +4,7 @@ import { at, element } from './elements.mjs';
 import { DOWNLINKS, IQ_HEAD_BYTES, SAMPLE_FORMS, iqOf, likelyForm, rateInName } from './iq.mjs';
 import { DRAWN } from './modulate.mjs';
 import { drawConstellation, drawSpectrum } from './scope.mjs';
-import { rich, text } from './words.mjs';
+import { rich, text, used } from './words.mjs';
 
 const USUAL_RATE = 2_400_000; // of an RTL-SDR
 const STATUS_REFUSED = 2; // of the demodulator: its settings make no sense
@@ -29,12 +29,15 @@ const STATUS_REFUSED = 2; // of the demodulator: its settings make no sense
  * @property {(progress: import('./messages.mjs').Progress) => void} hearProgress
  */
 
+/** @param {number} value */
+const inLanguage = (value) => value.toLocaleString(used());
+
 /** @param {string} form */
 const formWords = (form) => text(/** @type {Key} */ (`radio.${form}`));
 
 /** @param {string} name */
 const downlinkWords = (name) =>
-  text(/** @type {Key} */ (`radio.${name}`), { symbols: DOWNLINKS[name].symbols.toLocaleString() });
+  text(/** @type {Key} */ (`radio.${name}`), { symbols: inLanguage(DOWNLINKS[name].symbols) });
 
 export class Radio {
   isDrawn = false; // the sample is wanted as a radio's signal
@@ -141,11 +144,9 @@ export class Radio {
    */
   start(file, how) {
     this.work({ kind: 'demodulate', file, how });
-    const values = {
-      form: formWords(how.form), rate: how.rate.toLocaleString(), downlink: downlinkWords(how.downlink),
-    };
+    const values = { form: formWords(how.form), rate: inLanguage(how.rate), downlink: downlinkWords(how.downlink) };
     this.page.say({ key: 'radio.going', values });
-    at('radio-spectrum-words').textContent = text('radio.spectrum', { most: (how.rate / 2e6).toLocaleString() });
+    at('radio-spectrum-words').textContent = text('radio.spectrum', { most: inLanguage(how.rate / 2e6) });
   }
 
   /**
@@ -173,7 +174,7 @@ export class Radio {
     drawConstellation(at('radio-constellation'), points);
     drawSpectrum(at('radio-spectrum'), spectrum);
     const { isLocked = false, ratio = 0, carrier = 0, clipped = 0 } = signal ?? {};
-    const values = { ratio: ratio.toFixed(1), carrier: Math.round(carrier).toLocaleString() };
+    const values = { ratio: inLanguage(Math.round(10 * ratio) / 10), carrier: inLanguage(Math.round(carrier)) };
     const words = [...rich(isLocked ? 'radio.locked' : 'radio.none', values)];
     if (clipped > 0.01) words.push(' ', ...rich('radio.clipped', { percent: Math.round(100 * clipped) }));
     at('radio-words').replaceChildren(...words);

@@ -216,7 +216,7 @@ export const GERMAN = {
   'radio.f32': '32-Bit-Gleitkommazahlen',
   'radio.goes-hrit': 'GOES HRIT, {symbols} Symbole pro Sekunde',
   'radio.gk2a-lrit': 'GK-2A LRIT, {symbols} Symbole pro Sekunde',
-  'radio.goes-lrit': 'GOES LRIT (bis 2018), {symbols} Symbole pro Sekunde',
+  'radio.goes-lrit': 'GOES-N LRIT (beendet), {symbols} Symbole pro Sekunde',
   'radio.drawing': 'Das Funksignal des Beispiels wird erzeugt …',
   'radio.going':
     'Aus dem Funksignal werden [symbol:Soft-Symbole] … ({form}, {rate} Abtastwerte pro Sekunde, {downlink})',

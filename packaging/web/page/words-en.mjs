@@ -206,7 +206,7 @@ export const ENGLISH = {
   'radio.f32': '32-bit floats',
   'radio.goes-hrit': 'GOES HRIT, {symbols} symbols per second',
   'radio.gk2a-lrit': 'GK-2A LRIT, {symbols} symbols per second',
-  'radio.goes-lrit': 'GOES LRIT (until 2018), {symbols} symbols per second',
+  'radio.goes-lrit': 'GOES-N LRIT (ended), {symbols} symbols per second',
   'radio.drawing': 'Making the radio signal of the sample …',
   'radio.going':
     'Turning the radio signal into [symbol:soft symbols] … ({form}, {rate} samples per second, {downlink})',

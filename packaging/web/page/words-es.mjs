@@ -209,7 +209,7 @@ export const SPANISH = {
   'radio.f32': 'números de coma flotante de 32 bits',
   'radio.goes-hrit': 'GOES HRIT, {symbols} símbolos por segundo',
   'radio.gk2a-lrit': 'GK-2A LRIT, {symbols} símbolos por segundo',
-  'radio.goes-lrit': 'GOES LRIT (hasta 2018), {symbols} símbolos por segundo',
+  'radio.goes-lrit': 'GOES-N LRIT (terminado), {symbols} símbolos por segundo',
   'radio.drawing': 'Preparando la señal de radio del ejemplo …',
   'radio.going':
     'Convirtiendo la señal de radio en [symbol:símbolos blandos] … ({form}, {rate} muestras por segundo, {downlink})',

@@ -218,7 +218,7 @@ export const FRENCH = {
   'radio.f32': 'nombres à virgule de 32 bits',
   'radio.goes-hrit': 'GOES HRIT, {symbols} symboles par seconde',
   'radio.gk2a-lrit': 'GK-2A LRIT, {symbols} symboles par seconde',
-  'radio.goes-lrit': "GOES LRIT (jusqu'en 2018), {symbols} symboles par seconde",
+  'radio.goes-lrit': 'GOES-N LRIT (terminé), {symbols} symboles par seconde',
   'radio.drawing': "Préparation du signal radio de l'exemple …",
   'radio.going':
     'Le signal radio devient des [symbol:symboles souples] … ({form}, {rate} échantillons par seconde, {downlink})',
