@@ -74,7 +74,7 @@ const USUAL_SCALE: f32 = 32.0;
 
 const USUAL_RANGE: f64 = 60000.0;
 
-const USUAL_CARRIER_LOOP: f32 = 0.002;
+const USUAL_CARRIER_LOOP: f32 = 0.0025;
 
 const USUAL_CLOCK_LOOP: f32 = 0.0005;
 

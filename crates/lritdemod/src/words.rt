@@ -101,7 +101,7 @@ fn with_settings<'a>(alloc: Global, command: Command<'a>) -> Result<Command<'a>,
             alloc,
             "carrier-loop",
             "B",
-            "Bandwidth of the phase's loop, cycles a symbol [usually 0.002]",
+            "Bandwidth of the phase's loop, cycles a symbol [usually 0.0025]",
         ))?
         .arg(number(
             alloc,
