@@ -17,7 +17,7 @@ import sample
 PAGE = Path(__file__).resolve().parent / "page"
 IMPORT = re.compile(r"^import \{[^}]*\} from '\./([\w.-]+)';\n", re.MULTILINE)
 EXPORT = re.compile(r"^export (?=(async )?(const|let|function|class)\b)", re.MULTILINE)
-DECLARED = re.compile(r"^(?:async )?(?:const|let|function\*?|class) (\w+)", re.MULTILINE)
+DECLARED = re.compile(r"^(?:async )?(?:const|let|function\*?|class) (\w+|\[[^]]*\])", re.MULTILINE)
 
 
 class BundleError(Exception):
@@ -39,7 +39,7 @@ def script(name: str, seen: set[str] | None = None) -> str:
 def one_script(name: str) -> str:
     """The same, where no two files declare one name."""
     text = script(name)
-    names = DECLARED.findall(text)
+    names = [name for it in DECLARED.findall(text) for name in re.findall(r"\w+", it)]
     twice = sorted({it for it in names if names.count(it) > 1})
     if twice:
         raise BundleError(f"{name}: {', '.join(twice)} is declared by two files")

@@ -1,13 +1,16 @@
 // The curve of the quality: where frames were lost, and how many bytes were corrected in the others.
 import { element } from './elements.mjs';
-import { rich, text } from './words.mjs';
+import { rich, text, used } from './words.mjs';
 
-const [WIDTH, HEIGHT, LEFT, BOTTOM] = [640, 160, 34, 22];
+const [WIDTH, HEIGHT, LEFT, RIGHT, TOP, BOTTOM] = [680, 190, 34, 44, 8, 40];
 const LIMIT = 64; // bytes of a frame that one pass can correct at most: sixteen in each of four words
+const TICKS = 4;
+const RATE = 927_000; // symbols a second of the line code that GOES sends
 const SVG = 'http://www.w3.org/2000/svg';
 
 /**
  * @typedef {import('./quality.mjs').Bucket} Bucket
+ * @typedef {import('./messages.mjs').Quality} Quality
  * @typedef {import('./words.mjs').Said} Said
  */
 
@@ -26,48 +29,92 @@ function shape(name, properties, inside = '') {
 /**
  * What the curve says, in words.
  * @param {Bucket} total
+ * @param {boolean} [isCounted]
  * @returns {Said[]}
  */
-export function saidOf({ frames, lost, redecoded, corrected }) {
+export function saidOf({ frames, lost, redecoded, corrected }, isCounted = false) {
   if (!frames) return [{ key: 'quality.none' }];
   const whole = frames - lost;
   const mean = whole ? (corrected / whole).toFixed(1) : '0';
   const share = ((100 * lost) / frames).toFixed(lost && lost < frames / 100 ? 2 : 0);
   /** @type {Said[]} */
   const said = [{ key: 'quality.lost', values: { frames, lost, share } }];
+  if (isCounted) return [...said, { key: 'quality.counters' }];
   if (redecoded) said.push({ key: 'quality.again', values: { count: redecoded } });
   return [...said, { key: 'quality.corrected', values: { mean, most: LIMIT } }];
 }
 
+const [EDGE, BASE] = [WIDTH - RIGHT, HEIGHT - BOTTOM];
+
 /**
- * The curve, and what it says.
- * @param {Bucket[]} buckets
- * @param {Bucket} total
- * @returns {Node[]}
+ * The bars of lost frames, and the line of corrected bytes.
+ * @param {Quality} quality
+ * @returns {SVGElement[]}
  */
-export function curveOf(buckets, total) {
-  const [right, top] = [WIDTH - 4, 8];
-  const wide = (right - LEFT) / buckets.length;
-  const high = HEIGHT - BOTTOM - top;
-  const label = saidOf(total).map(({ key, values }) => text(key, values)).join(' ');
-  const svg = shape('svg', { viewBox: `0 0 ${WIDTH} ${HEIGHT}`, role: 'img', 'aria-label': label });
+function marksOf({ buckets, isCounted }) {
+  const wide = (EDGE - LEFT) / buckets.length;
+  const high = BASE - TOP;
   /** @type {string[]} */
   const points = [];
-  buckets.forEach(({ frames, lost, corrected }, place) => {
-    if (!frames) return;
+  const bars = buckets.flatMap(({ frames, lost, corrected }, place) => {
     const x = LEFT + place * wide;
-    const height = (high * lost) / frames;
-    const bar = { class: 'lost', x, y: HEIGHT - BOTTOM - height, width: Math.max(1, wide), height };
-    if (lost) svg.append(shape('rect', bar));
     const mean = Math.min(LIMIT, corrected / Math.max(1, frames - lost));
-    if (frames > lost) points.push(`${x + wide / 2},${HEIGHT - BOTTOM - (high * mean) / LIMIT}`);
+    if (frames > lost) points.push(`${x + wide / 2},${BASE - (high * mean) / LIMIT}`);
+    const height = (high * lost) / Math.max(1, frames);
+    return lost ? [shape('rect', { class: 'lost', x, y: BASE - height, width: Math.max(1, wide), height })] : [];
   });
-  svg.append(shape('polyline', { class: 'corrected', points: points.join(' ') }));
-  svg.append(shape('line', { class: 'axis', x1: LEFT, y1: HEIGHT - BOTTOM, x2: right, y2: HEIGHT - BOTTOM }));
-  svg.append(shape('line', { class: 'axis', x1: LEFT, y1: top, x2: LEFT, y2: HEIGHT - BOTTOM }));
-  svg.append(shape('text', { x: LEFT - 6, y: top + 10, 'text-anchor': 'end' }, String(LIMIT)));
-  svg.append(shape('text', { x: LEFT - 6, y: HEIGHT - BOTTOM, 'text-anchor': 'end' }, '0'));
+  return isCounted ? bars : [...bars, shape('polyline', { class: 'corrected', points: points.join(' ') })];
+}
+
+/**
+ * The axes with their numbers: frames below, corrected bytes on the left, the share of lost frames on the right.
+ * @param {Quality} quality
+ * @returns {SVGElement[]}
+ */
+function axesOf({ frames, isCounted }) {
+  const line = (/** @type {number[]} */ [x1, y1, x2, y2]) => shape('line', { class: 'axis', x1, y1, x2, y2 });
+  const word = (/** @type {number} */ x, /** @type {number} */ y, /** @type {string} */ anchor, /** @type {string} */ it) =>
+    shape('text', { x, y, 'text-anchor': anchor }, it);
+  const ticks = Array.from({ length: TICKS + 1 }, (_, at) => {
+    const number = String(Math.round((frames * at) / TICKS));
+    return word(LEFT + ((EDGE - LEFT) * at) / TICKS, BASE + 15, at < TICKS ? 'middle' : 'end', number);
+  });
+  const left = isCounted ? [] : [word(LEFT - 6, TOP + 10, 'end', String(LIMIT)), word(LEFT - 6, BASE, 'end', '0')];
+  const right = [word(EDGE + 6, TOP + 10, 'start', '100 %'), word(EDGE + 6, BASE, 'start', '0 %')];
+  const lines = [[LEFT, BASE, EDGE, BASE], [LEFT, TOP, LEFT, BASE], [EDGE, TOP, EDGE, BASE]].map(line);
+  return [...lines, ...ticks, ...left, ...right, word((LEFT + EDGE) / 2, BASE + 32, 'middle', text('quality.axis'))];
+}
+
+/**
+ * The curve, and what it says.
+ * @param {Quality} quality
+ * @param {(from: number, to: number) => void} choose hears of a part of the recording that is clicked, from 0 to 1
+ * @param {number} seconds that the recording has, or 0 where that isn't known
+ * @returns {Node[]}
+ */
+export function curveOf(quality, choose, seconds) {
+  const { buckets, total, isCounted } = quality;
+  const said = saidOf(total, isCounted);
+  const label = said.map(({ key, values }) => text(key, values)).join(' ');
+  const svg = shape('svg', { viewBox: `0 0 ${WIDTH} ${HEIGHT}`, role: 'img', 'aria-label': label });
+  svg.append(...marksOf(quality), ...axesOf(quality));
+  svg.onclick = ({ clientX }) => {
+    const { left, width } = svg.getBoundingClientRect();
+    const place = Math.floor((((clientX - left) * WIDTH) / width - LEFT) / ((EDGE - LEFT) / buckets.length));
+    if (place >= 0 && place < buckets.length) choose(place / buckets.length, (place + 1) / buckets.length);
+  };
   const words = element('p', {});
-  for (const { key, values } of saidOf(total)) words.append(...rich(key, values), ' ');
-  return [svg, words, element('p', { className: 'small' }, ...rich('quality.legend'))];
+  for (const { key, values } of said) words.append(...rich(key, values), ' ');
+  if (seconds) words.append(text('quality.seconds', { count: Math.round(seconds), rate: RATE.toLocaleString(used()) }), '.');
+  const legend = rich(isCounted ? 'quality.legend.counters' : 'quality.legend');
+  return [svg, words, element('p', { className: 'small' }, ...legend)];
+}
+
+/**
+ * How many seconds so many symbols are, where the line code tells their rate; else 0.
+ * @param {number} symbols
+ * @param {import('./forms.mjs').Code | null} code
+ */
+export function secondsOf(symbols, code) {
+  return code?.line === 'nrz-m' && code.g2 === 'plain' ? symbols / RATE : 0;
 }

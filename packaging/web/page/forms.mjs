@@ -7,7 +7,7 @@ const FRAME_BYTES = 892; // without marker and code
 const CADU_BYTES = 1024;
 const MARKER = [0x1a, 0xcf, 0xfc, 0x1d];
 const LEVEL = 64; // of a clean symbol
-const COUNTER_MODULUS = 1 << 24;
+export const COUNTER_MODULUS = 1 << 24; // of the frames of a channel
 export const CODES = ['nrz-l', 'nrz-m'].flatMap((line) => ['inverted', 'plain'].map((g2) => ({ line, g2 })));
 
 /**

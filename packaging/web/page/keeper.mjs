@@ -1,7 +1,9 @@
 // What a Worker with `lr_run` does: it finds the line code, holds the shelf, and makes pictures, texts and files of it.
 import { FileShelf, MemoryShelf, bytesOf } from './devices.mjs';
+import { FrameReader } from './frames.mjs';
 import { missionFiles } from './given.mjs';
 import { isReadable, isWithoutBounds, joinedPicture, pictureOf, thinned } from './images.mjs';
+import { Layers } from './layers.mjs';
 import { lostAreas, lostLines } from './lost.mjs';
 import { safe, stampName } from './names.mjs';
 import { worsened } from './noise.mjs';
@@ -49,6 +51,10 @@ export class Keeper {
   queue = []; // files that are to be looked at
   /** @type {Blob[]} */
   given = []; // files in place of a shelf
+  /** @type {import('./windows.mjs').Window[]} */
+  windows = []; // what became of the recording's frames
+  /** @type {Layers | null} */
+  layers = null;
   /** @type {Set<Group>} */
   changed = new Set(); // pictures that are to be drawn
   /** @type {Set<Group>} */
@@ -345,6 +351,35 @@ export class Keeper {
     const kind = file && pictureKind(file.data);
     const isShown = file?.header && kind && !isEncrypted(file.header) && isReadable(file.data, kind.ending);
     return isShown ? { file, kind } : null;
+  }
+
+  // ---- frames
+
+  /**
+   * The recording that comes, whose frames may be looked at.
+   * @param {Blob} file
+   * @param {import('./forms.mjs').Found} found
+   */
+  record(file, found) {
+    this.layers = new Layers(new FrameReader(file, found, this.windows), this);
+  }
+
+  /**
+   * Tells what happens to a frame, or to the next one after it in which a part of a picture begins.
+   * @param {number} number
+   * @param {boolean} isNext
+   */
+  tellLayers(number, isNext) {
+    const { layers, windows } = this;
+    const place = isNext && layers ? layers.nextPicture(number) : number;
+    const frame = layers?.reader.frame(place) ?? null;
+    if (!layers || !frame) {
+      this.tell({ kind: 'layers', number, layered: null });
+      return;
+    }
+    const { files, lines } = layers.filesOf(place, frame);
+    const lost = windows[place].lost < 0 ? [] : layers.lostWith(place);
+    this.tell({ kind: 'layers', number: place, layered: { frame, window: windows[place], files, lines, lost } });
   }
 
   // ---- what is saved

@@ -17,14 +17,19 @@
  * @typedef {{noise: number, lost: number, seed: number}} Worse percent of noise, and lost frames
  * @typedef {{kind: 'receive', file: Blob, found: Found, port: MessagePort}} Receive
  * @typedef {{kind: 'judge', file: Blob, found: Found}} Judge
- * @typedef {{kind: 'keep', port: MessagePort}} Keep
+ * @typedef {{kind: 'keep', port: MessagePort, file: Blob, found: Found}} Keep
+ * @typedef {import('./windows.mjs').Window} Window
+ * @typedef {{kind: 'windows', windows: Window[]}} Windows the next frames of the recording, which a Worker tells the
+ *   page, and the page the one that keeps the shelf
+ * @typedef {{kind: 'layers', number: number, isNext: boolean}} AskLayers isNext: of the next frame after it in which a
+ *   part of a picture begins
  * @typedef {{kind: 'open', file: Blob}} Open
  * @typedef {{kind: 'give', files: File[]}} Give
  * @typedef {{kind: 'look', id: number, most: number}} Look most: pixels of a side
  * @typedef {{kind: 'save', id: number}} Save
  * @typedef {{kind: 'saveFile', number: number, member: number}} SaveFile member: -1 for the file as it was received
  * @typedef {{kind: 'end' | 'more' | 'saveAll' | 'saveShelf'}} Plain
- * @typedef {Load | Which | Transmit | Receive | Judge | Keep | Open | Give | Look | Save | SaveFile | Plain} Task
+ * @typedef {Load | Which | Transmit | Receive | Judge | Keep | Windows | AskLayers | Open | Give | Look | Save | SaveFile | Plain} Task
  *
  * What it tells.
  * @typedef {{kind: 'did', task: string}} Did
@@ -49,10 +54,18 @@
  *   } SentTold id: of a picture, and none where it stands in another file
  * @typedef {{kind: 'text', number: number, member: number, name: string, stamp: string, heading: string, text: string,
  *   isCut: boolean}} TextTold
- * @typedef {{kind: 'quality', buckets: Bucket[], total: Bucket, isWhole?: boolean}} Quality
+ * @typedef {{kind: 'quality', buckets: Bucket[], total: Bucket, frames: number, isCounted: boolean, isWhole?: boolean
+ *   }} Quality frames: that the recording has room for; isCounted: lost frames are told by the counters of the others
+ * @typedef {object} Layered what happens to a frame; it is null where there is no such frame
+ * @property {import('./frames.mjs').Frame} frame
+ * @property {Window} window
+ * @property {Said[]} files
+ * @property {Said[]} lines
+ * @property {Said[]} lost
+ * @typedef {{kind: 'layers', number: number, layered: Layered | null}} LayersTold
  * @typedef {{kind: 'settled', files: number, waiting: number}} Settled
  * @typedef {{kind: 'saved', name?: string, bytes?: Uint8Array | Blob, type: string}} Saved
  * @typedef {Did | Failed | Sample | Trying | Tried | Answered | Progress | Received | Opened | Given | FileTold
- *   | PictureTold | SentTold | Looked | Dropped | TextTold | Quality | Settled | Saved} Told
+ *   | PictureTold | SentTold | Looked | Dropped | Windows | LayersTold | TextTold | Quality | Settled | Saved} Told
  */
 export {};

@@ -1,11 +1,12 @@
 // The page: a recording or a shelf comes in, and what is received is shown as it comes.
 import { at, element, save } from './elements.mjs';
-import { curveOf } from './curve.mjs';
-import { CODES, FORMS } from './forms.mjs';
+import { curveOf, secondsOf } from './curve.mjs';
+import { CODES, FORMS, FRAME_SYMBOLS } from './forms.mjs';
 import { isMissionFile } from './given.mjs';
 import { Radio } from './radio.mjs';
 import { HEADER_BYTES, isShelf } from './shelf.mjs';
 import { isZip } from './zip.mjs';
+import { Story } from './story.mjs';
 import { View } from './view.mjs';
 import { Viewer } from './viewer.mjs';
 import { LANGUAGES, TERMS, counted, fillPage, languageOf, nodesOf, rich, text, use, used, wordsOf } from './words.mjs';
@@ -51,6 +52,7 @@ class Page {
     const ask = (task) => this.ask(task);
     /** @type {View} */
     this.view = new View(ask, (entry) => this.viewer.open(entry));
+    this.story = new Story(ask);
     /** @type {Viewer} */
     this.viewer = new Viewer(ask, () => [...this.view.entries.values()]);
     /** @type {Blob} */
@@ -138,6 +140,7 @@ class Page {
     this.endWorkers();
     this.radio.clear();
     this.view.clear();
+    this.story.clear();
     this.files = 0;
     Object.assign(this, { isSample: false, isReceived: false, isUnsaved: false });
     at('tries').replaceChildren();
@@ -184,16 +187,14 @@ class Page {
     this.found = found;
     this.isReceived = !this.isSample;
     const { port1, port2 } = new MessageChannel();
-    this.ask({ kind: 'keep', port: port1 }, [port1]);
+    this.ask({ kind: 'keep', port: port1, file: this.file, found }, [port1]);
     const receiver = this.worker('lr_live');
     this.workers = [receiver];
     this.began = performance.now();
     receiver.postMessage({ kind: 'receive', file: this.file, found, port: port2 }, [port2]);
-    if (found.code) {
-      const judge = this.worker('lr_live');
-      this.workers.push(judge);
-      judge.postMessage({ kind: 'judge', file: this.file, found });
-    }
+    const judge = this.worker('lr_live');
+    this.workers.push(judge);
+    judge.postMessage({ kind: 'judge', file: this.file, found });
     this.say({ key: 'state.receiving', values: { how: wordsFor(found.form, found.code) } });
   }
 
@@ -245,10 +246,17 @@ class Page {
     dropped: ({ id }) => this.show(() => this.view.drop(id)),
     looked: (looked) => this.viewer.looked(looked),
     text: (told) => this.show(() => this.view.text(told)),
-    quality: ({ buckets, total, isWhole = false }) => {
-      at('quality').dataset.isWhole = String(isWhole);
+    windows: ({ windows }) => {
+      this.story.take(windows);
+      this.ask({ kind: 'windows', windows });
+    },
+    layers: (told) => this.story.told(told),
+    quality: (quality) => {
+      at('quality').dataset.isWhole = String(quality.isWhole ?? false);
       at('quality-section').hidden = false;
-      at('quality').replaceChildren(...curveOf(buckets, total));
+      const seconds = secondsOf(quality.frames * FRAME_SYMBOLS, this.found?.code ?? null);
+      const choose = (/** @type {number} */ from, /** @type {number} */ to) => this.story.showAt(from, to);
+      at('quality').replaceChildren(...curveOf(quality, choose, seconds));
       this.list();
     },
     settled: ({ files, waiting }) => {

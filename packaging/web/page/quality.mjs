@@ -1,6 +1,8 @@
-// How well a reception goes over its length, from the lines of `decode`.
+// How well a reception goes over its length: from the lines of `decode`, or of `frames` where these are read.
+import { COUNTER_MODULUS, FRAME_SYMBOLS } from './forms.mjs';
 
 const BUCKETS = 160;
+const MOST_MISSING = 4096; // frames in succession; beyond these a channel begins again
 const WORD_LIMIT = 16; // bytes of a word that one pass can correct; more tell that it was decoded again
 
 /**
@@ -10,32 +12,58 @@ const WORD_LIMIT = 16; // bytes of a word that one pass can correct; more tell t
 
 /** The outcomes of frames by their places. */
 export class Curve {
-  /** @param {number} symbols of the whole recording */
-  constructor(symbols) {
-    this.symbols = Math.max(1, symbols);
+  /** @type {Map<number, number>} the last counter of each channel */
+  counters = new Map();
+
+  /** @param {number} frames in the whole recording, if they followed one another */
+  constructor(frames) {
+    this.frames = frames || 1;
     /** @type {Bucket[]} */
     this.buckets = Array.from({ length: BUCKETS }, () => ({ frames: 0, lost: 0, redecoded: 0, corrected: 0 }));
     this.total = { frames: 0, lost: 0, redecoded: 0, corrected: 0 };
   }
 
   /**
-   * Takes a line, as `window 0 at 0 polarity + restored 0 0 0 0`.
+   * @param {number} frame how many frames before it there is room for
+   * @param {Bucket} more
+   */
+  add(frame, more) {
+    const place = Math.min(BUCKETS - 1, Math.floor((frame / this.frames) * BUCKETS));
+    for (const it of [this.buckets[place], this.total]) {
+      it.frames += more.frames;
+      it.lost += more.lost;
+      it.redecoded += more.redecoded;
+      it.corrected += more.corrected;
+    }
+  }
+
+  /**
+   * Takes a line, as `window 0 at 0 polarity + restored 0 0 0 0`, or `frame 0 vc 0 counter 0` and more.
    * @param {string} line
    */
   take(line) {
     const words = line.split(' ');
+    if (words[0] === 'frame' && words[4] === 'counter') this.count(Number(words[1]), Number(words[3]), Number(words[5]));
     if (words[0] !== 'window' || words.length < 8) return;
-    const place = Math.min(BUCKETS - 1, Math.floor((Number(words[3]) / this.symbols) * BUCKETS));
     const isLost = words[6] === 'lost';
     const numbers = isLost ? [] : words.slice(7, 11).map(Number);
     const corrected = numbers.reduce((sum, it) => sum + it, 0);
-    const isRedecoded = numbers.some((it) => it > WORD_LIMIT);
-    for (const it of [this.buckets[place], this.total]) {
-      it.frames += 1;
-      it.lost += isLost ? 1 : 0;
-      it.redecoded += isRedecoded ? 1 : 0;
-      it.corrected += corrected;
-    }
+    const redecoded = Number(numbers.some((it) => it > WORD_LIMIT));
+    this.add(Number(words[3]) / FRAME_SYMBOLS, { frames: 1, lost: Number(isLost), redecoded, corrected });
+  }
+
+  /**
+   * Takes a frame, whose counter tells how many of its channel are missing before it.
+   * @param {number} frame
+   * @param {number} channel
+   * @param {number} counter
+   */
+  count(frame, channel, counter) {
+    const before = this.counters.get(channel) ?? counter - 1;
+    this.counters.set(channel, counter);
+    const missing = (counter - before - 1 + COUNTER_MODULUS) % COUNTER_MODULUS;
+    const lost = missing <= MOST_MISSING ? missing : 0;
+    this.add(frame, { frames: 1 + lost, lost, redecoded: 0, corrected: 0 });
   }
 }
 

@@ -2,10 +2,11 @@
 // write to the shelf goes to the keeper too, which so holds the same bytes at any moment: if this Worker is ended the
 // shelf is as a power cut would leave it.
 import { FileInput, MemoryShelf, bytesOf } from './devices.mjs';
-import { FORMS, optionsOf } from './forms.mjs';
+import { FORMS, FRAME_SYMBOLS, optionsOf } from './forms.mjs';
 import { TRIED_BYTES } from './search.mjs';
 import { Curve, lineReader } from './quality.mjs';
 import { MOST_CAPACITY } from './shelf.mjs';
+import { windowOfLine } from './windows.mjs';
 
 export const PASSES = ['--passes', '4']; // lost frames are decoded again
 const TOLD_MILLISECONDS = 100; // between two words on how far it is
@@ -100,7 +101,7 @@ export function receive(station, file, found, keep, tell) {
 }
 
 /**
- * Tells how well a recording of symbols is received.
+ * Tells how well a recording is received.
  * @param {Station} station
  * @param {Blob} file
  * @param {Found} found
@@ -108,12 +109,26 @@ export function receive(station, file, found, keep, tell) {
  */
 export function judge(station, file, found, tell) {
   const { unit, gives } = FORMS[found.form];
-  const curve = new Curve((file.size / unit) * gives);
-  const lines = lineReader((line) => curve.take(line));
-  const told = () => tell({ kind: 'quality', buckets: curve.buckets, total: curve.total });
+  const isCounted = !found.code;
+  const curve = new Curve(isCounted ? file.size / unit : ((file.size / unit) * gives) / FRAME_SYMBOLS);
+  const { buckets, total, frames } = curve;
+  /** @type {import('./windows.mjs').Window[]} */
+  let windows = [];
+  const lines = lineReader((line) => {
+    curve.take(line);
+    const window = windowOfLine(line);
+    if (window) windows.push(window);
+  });
+  const told = () => {
+    tell({ kind: 'windows', windows });
+    windows = [];
+    tell({ kind: 'quality', buckets, total, frames, isCounted });
+  };
   const input = inputOf(file, found.form, told);
   const shelf = new MemoryShelf();
   const put = (/** @type {number} */ output, /** @type {Uint8Array} */ bytes) => output === 1 && lines(bytes);
-  station.live(['decode', ...optionsOf(found), ...PASSES], { input, shelf, put });
-  tell({ kind: 'quality', buckets: curve.buckets, total: curve.total, isWhole: true });
+  const command = isCounted ? ['frames'] : ['decode', ...optionsOf(found), ...PASSES];
+  station.live(command, { input, shelf, put });
+  tell({ kind: 'windows', windows });
+  tell({ kind: 'quality', buckets, total, frames, isCounted, isWhole: true });
 }

@@ -29,6 +29,8 @@ const POLYNOMIAL = 0x1021;
  * @property {number} extent its bytes, without the gate
  * @property {number} number of a file its own, of a discard that of the file that it discards
  * @property {boolean} isDiscard
+ * @typedef {{channel: number, application: number, packets: number, frames: [number, number] | null}} Front frames: of
+ *   its first and its last packet
  * @typedef {object} StoredFile
  * @property {number} number
  * @property {number} channel
@@ -165,6 +167,22 @@ export function fileOf(item, number) {
     header,
     data: header ? proper.subarray(header.size) : proper.subarray(0, 0),
   };
+}
+
+/**
+ * What stands at the front of a file's item. No checksum is compared for it.
+ * @param {Shelved} shelf
+ * @param {Head} head
+ * @returns {Front}
+ */
+export function frontOf(shelf, head) {
+  const front = shelf.slice(head.gate + 1, HEAD_BYTES);
+  const isNew = front[0] === FILE;
+  const at = isNew ? 1 : 0;
+  const view = viewOf(front);
+  const [first, last] = [0, 8].map((place) => (isNew ? Number(view.getBigUint64(at + FIELDS_BYTES + place)) : 0));
+  const fields = { channel: front[at], application: view.getUint16(at + 1), packets: view.getUint32(at + 3) };
+  return { ...fields, frames: isNew ? [first, last] : null };
 }
 
 /**

@@ -55,9 +55,16 @@ export function used() {
 export function text(key, values = {}) {
   return LANGUAGES[language].table[key].replace(PARTS, (_, name, term, shown, code) => {
     if (name) return String(values[name]);
-    return code ?? shown ?? word(term);
+    return code ?? (shown ? filled(shown, values) : word(term));
   });
 }
+
+/**
+ * The words for a term with their values.
+ * @param {string} shown
+ * @param {Values} values
+ */
+const filled = (shown, values) => shown.replace(/\{(\w+)\}/g, (_, name) => String(values[name]));
 
 /**
  * A text as nodes: words of the glossary say what they mean.
@@ -72,7 +79,7 @@ export function rich(key, values = {}) {
   for (const { 0: part, 1: name, 2: term, 3: shown, 4: code, index = 0 } of whole.matchAll(PARTS)) {
     nodes.push(whole.slice(end, index));
     if (name) nodes.push(String(values[name]));
-    else nodes.push(code ? element('code', { textContent: code }) : abbreviation(term, shown));
+    else nodes.push(code ? element('code', { textContent: code }) : abbreviation(term, shown && filled(shown, values)));
     end = index + part.length;
   }
   return [...nodes, whole.slice(end)].filter((it) => it !== '');

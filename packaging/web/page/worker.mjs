@@ -22,10 +22,11 @@ const tell = (message) => postMessage(message);
 
 /**
  * Hears what becomes of the shelf of a reception.
- * @param {MessagePort} port
+ * @param {import('./messages.mjs').Keep} task
  */
-function keep(port) {
+function keep({ port, file, found }) {
   keeper.begin();
+  keeper.record(file, found);
   const { run } = keeper;
   port.onmessage = ({ data }) => {
     if (keeper.run !== run) return;
@@ -48,7 +49,9 @@ const TASKS = {
     port.postMessage({ kind: 'end' });
   },
   judge: ({ file, found }) => judge(station, file, found, tell),
-  keep: ({ port }) => keep(port),
+  keep,
+  windows: ({ windows }) => keeper.windows.push(...windows),
+  layers: ({ number, isNext }) => keeper.tellLayers(number, isNext),
   end: () => keeper.end(),
   open: ({ file }) => keeper.open(file, new Station(live)),
   give: ({ files }) => keeper.give(files),

@@ -61,7 +61,7 @@ test('the words of a found form', () => {
 });
 
 test('the curve counts by places', () => {
-  const curve = new Curve(1600);
+  const curve = new Curve(1600 / 16384);
   const lines = lineReader((line) => curve.take(line));
   const first = 'window 0 at 0 polarity + restored 1 2 3 4\nwindow 1 at 805 polarity - lost 2\n';
   const text = `${first}window 2 at 806 polarity - restored 1 17 9 13\nsymbols 1600 frames 3\n`;
@@ -74,6 +74,17 @@ test('the curve counts by places', () => {
   assert.deepEqual(again, { key: 'quality.again', values: { count: 1 } });
   assert.deepEqual(corrected, { key: 'quality.corrected', values: { mean: '25.0', most: 64 } });
   assert.deepEqual(saidOf({ frames: 0, lost: 0, redecoded: 0, corrected: 0 }), [{ key: 'quality.none' }]);
+});
+
+test('of frames, the counters of each channel tell how many are missing', () => {
+  const curve = new Curve(4);
+  const counters = [[7, 16777214], [63, 5], [7, 1], [63, 6], [63, 6 + 9000]];
+  counters.forEach(([channel, counter], at) => {
+    curve.take(`frame ${at} vc ${channel} counter ${counter} spacecraft 7 replay 0 pointer 0`);
+  });
+  assert.deepEqual(curve.total, { frames: 7, lost: 2, redecoded: 0, corrected: 0 });
+  assert.deepEqual(curve.buckets[80], { frames: 3, lost: 2, redecoded: 0, corrected: 0 }, 'two before the third frame');
+  assert.deepEqual(saidOf(curve.total, true)[1], { key: 'quality.counters' });
 });
 
 test('blocks of the heap: aligned, apart, within the memory, and used again', () => {

@@ -50,6 +50,8 @@ test('the language is the first one that the browser asks for and there is', () 
 test('values and numbers of things', () => {
   assert.equal(text('tries.restored', { how: 'x', restored: 3, frames: 5 }), 'x: 3 of 5 frames restored');
   assert.equal(text('save.note').includes('The shelf is'), true);
+  assert.equal(text('lost.channel', { channel: 13 }), 'It belonged to channel 13.');
+  assert.equal(text('files.saves', { number: '[shelf] {x}' }), 'Save file [shelf] {x} as it was received');
   assert.deepEqual(counted('files', 1), { key: 'files.one', values: { count: 1 } });
   assert.deepEqual(counted('files', 0).key, 'files.other');
   use('fr');
