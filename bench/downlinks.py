@@ -1,13 +1,16 @@
 """What `downlinks.sh` runs: its head says what it does."""
 
-import os, subprocess, sys, time
+import os
+import subprocess
+import sys
+import time
 
-import blocks, uplink
+from downlink import ZONE, block, checked, frame, idle, packet, symbols_of
 
 RECORDINGS = (1, 2, 3, 4)
 
 
-def run(words, path):
+def run(words: str, path: str) -> tuple[float, str]:
     """The wall time of a command over this input, and its last line."""
     begin = time.monotonic()
     with open(path, 'rb') as source:
@@ -15,7 +18,7 @@ def run(words, path):
     return time.monotonic() - begin, done.stdout.decode().splitlines()[-1]
 
 
-def seconds(words, paths):
+def seconds(words: str, paths: list[str]) -> tuple[float, int]:
     """The time of these calls onto an empty shelf, and how many files stand there then."""
     if os.path.exists('shelf'):
         os.remove('shelf')
@@ -29,7 +32,7 @@ JOBS = {
     'frames': ('receive --input frames', ['frames.%d' % k for k in RECORDINGS]),
     'downlinks': ('downlinks', ['bundle']),
 }
-best = {}
+best: dict[str, float] = {}
 for _ in range(int(sys.argv[1])):
     for name, (words, paths) in JOBS.items():
         took, files = seconds(words, paths)
@@ -40,16 +43,11 @@ print(f'downlinks takes {best["downlinks"]:.3f} s, four calls of receive {best["
 print(f'what stands under the lock takes at most {best["frames"]:.3f} s in one thread')
 
 
-def small_files(frames):
+def small_files(frames: int) -> bytes:
     """A bundle of one recording, of frames with 48 files of ten bytes each."""
-    body = bytes(10)
-    one = uplink.packet(100, 3, 0, body + uplink.checksum(body))
-    zone = 48 * one + uplink.packet(2047, 3, 0, bytes(884 - 48 * len(one) - 6))
-    frame = int(f'01{7:08b}{0:06b}{0:024b}0{0:07b}{0:05b}{0:011b}', 2).to_bytes(8, 'big') + zone
-    words = [blocks.encoded([frame[4 * i + k] for i in range(223)]) for k in range(4)]
-    plain = [words[place % 4][place // 4] for place in range(1020)]
-    block = [a ^ b for a, b in zip(plain, blocks.SEQUENCE)]
-    symbols = bytes(uplink.symbols([block, block], False, True)[16384:])
+    one = packet(100, 3, 0, checked(bytes(10)))
+    sent = block(frame(0, 0, 0, 48 * one + idle(ZONE - 48 * len(one))), 0)
+    symbols = symbols_of([sent, sent])[16384:]
     return bytes([1]) + (frames * len(symbols)).to_bytes(8, 'big') + frames * symbols
 
 

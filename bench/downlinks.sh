@@ -18,4 +18,4 @@ for start in 1 2 3 4; do
     ./lritstation - make $start "${2:-2048}" 0 --output frames > frames.$start
 done
 "$top/examples/bundle.sh" symbols.1 symbols.2 symbols.3 symbols.4 > bundle
-PYTHONPATH=$top/reference PYTHONDONTWRITEBYTECODE=1 python3 "$top/bench/downlinks.py" "${1:-5}"
+python3 "$top/bench/downlinks.py" "${1:-5}"

@@ -42,7 +42,7 @@ awk -v n="$appends" -v shelf="$shelf" -v plain="$plain" 'BEGIN {
 
 # puts a shelf of this many files into `shelf.bench`
 make_shelf() {
-    PYTHONPATH=$top/reference python3 "$top/bench/shelf_made.py" "$1"
+    python3 "$top/bench/shelf_made.py" "$1"
 }
 
 make_shelf 100000

@@ -7,15 +7,22 @@ polynomial. Restoring solves the key equation by Euclid's algorithm on polynomia
 takes Forney's values; what comes out is an answer only if it is a codeword, by its values at all 32 roots, within
 sixteen bytes of the word. It shares no code with the crates.
 
-Prints for each drawn block: seed, wrong bytes in each word, the checksum (CRC-16, x^16+x^12+x^5+1, from FFFF) of the block as it
-is received, and its outcome.
+Prints for each drawn block: seed, wrong bytes in each word, the checksum (CRC-16, x^16+x^12+x^5+1, from FFFF) of the
+block as it is received, and its outcome.
 """
+
+from __future__ import annotations
+
+import random
+from collections.abc import Iterable
+
+from drawn import Draw, crc
 
 TO_DUAL = [0x8D, 0xEF, 0xEC, 0x86, 0xFA, 0x99, 0xAF, 0x7B]
 FROM_DUAL = [0xC5, 0x42, 0x2E, 0xFD, 0xF0, 0x79, 0xAC, 0xCC]
 
 
-def by_rows(rows, byte):
+def by_rows(rows: list[int], byte: int) -> int:
     total = 0
     for place in range(8):
         if byte >> (7 - place) & 1:
@@ -23,7 +30,7 @@ def by_rows(rows, byte):
     return total
 
 
-def times(a, b):
+def times(a: int, b: int) -> int:
     """Carry-less product, then the remainder by the field's polynomial."""
     product = 0
     for place in range(8):
@@ -35,7 +42,7 @@ def times(a, b):
     return product
 
 
-def power(a, n):
+def power(a: int, n: int) -> int:
     result = 1
     for _ in range(n):
         result = times(result, a)
@@ -48,19 +55,19 @@ INVERSE = {a: b for a in ALPHA for b in ALPHA if times(a, b) == 1}
 
 
 # Polynomials: lists of coefficients, that of x^0 first.
-def trimmed(p):
+def trimmed(p: Iterable[int]) -> list[int]:
     p = list(p)
     while p and p[-1] == 0:
         p.pop()
     return p
 
 
-def plus(p, q):
+def plus(p: list[int], q: list[int]) -> list[int]:
     long = max(len(p), len(q))
     return trimmed((p[i] if i < len(p) else 0) ^ (q[i] if i < len(q) else 0) for i in range(long))
 
 
-def product(p, q):
+def product(p: list[int], q: list[int]) -> list[int]:
     result = [0] * (len(p) + len(q))
     for i, a in enumerate(p):
         for j, b in enumerate(q):
@@ -68,7 +75,7 @@ def product(p, q):
     return trimmed(result)
 
 
-def divided(p, q):
+def divided(p: list[int], q: list[int]) -> tuple[list[int], list[int]]:
     p, quotient = trimmed(p), [0] * max(1, len(p))
     while len(p) >= len(q):
         factor = times(p[-1], INVERSE[q[-1]])
@@ -78,36 +85,29 @@ def divided(p, q):
     return trimmed(quotient), p
 
 
-def value(p, x):
-    total = 0
-    for n, c in enumerate(p):
-        total ^= times(c, power(x, n))
-    return total
-
-
 GENERATOR = [1]
 for root in ROOTS:
     GENERATOR = product(GENERATOR, [root, 1])
 
 
-def polynomial_of(word):
+def polynomial_of(word: list[int]) -> list[int]:
     """Byte i, out of the dual basis, is the coefficient of x^(254 - i)."""
     return [by_rows(FROM_DUAL, word[254 - n]) for n in range(255)]
 
 
-def horner(p, x):
+def horner(p: list[int], x: int) -> int:
     total = 0
     for c in reversed(p):
         total = times(total, x) ^ c
     return total
 
 
-def is_codeword(word):
+def is_codeword(word: list[int]) -> bool:
     p = polynomial_of(word)
     return all(horner(p, root) == 0 for root in ROOTS)
 
 
-def encoded(information):
+def encoded(information: list[int]) -> list[int]:
     p = polynomial_of(information + [0] * 32)
     _, rest = divided(p, GENERATOR)
     rest = rest + [0] * (32 - len(rest))
@@ -116,7 +116,7 @@ def encoded(information):
     return word
 
 
-def restored(word):
+def restored(word: list[int]) -> tuple[list[int], int] | None:
     """The codeword within sixteen bytes and how many bytes differ, or None."""
     p = polynomial_of(word)
     syndromes = [horner(p, root) for root in ROOTS]
@@ -124,7 +124,7 @@ def restored(word):
         return word, 0
     # Euclid on x^32 and the syndromes, until the remainder has a degree below 16
     above, below = [0] * 32 + [1], trimmed(syndromes)
-    before, locator = [], [1]
+    before, locator = list[int](), [1]
     while len(below) > 16:
         quotient, rest = divided(above, below)
         above, below = below, rest
@@ -147,7 +147,7 @@ def restored(word):
     return (candidate, changed) if is_codeword(candidate) and changed <= 16 else None
 
 
-def randomiser():
+def randomiser() -> list[int]:
     a = [1] * 8
     while len(a) < 8160:
         n = len(a) - 8
@@ -158,51 +158,34 @@ def randomiser():
 SEQUENCE = randomiser()
 
 
-def outcome(block):
-    plain = [a ^ b for a, b in zip(block, SEQUENCE)]
-    words = []
+def randomised(block: Iterable[int]) -> list[int]:
+    return [a ^ b for a, b in zip(block, SEQUENCE)]
+
+
+def outcome(block: list[int]) -> tuple[str, int | list[int], list[int]]:
+    plain, words = randomised(block), list[tuple[list[int], int]]()
     for k in range(4):
         answer = restored([plain[4 * i + k] for i in range(255)])
         if answer is None:
-            return "lost", k
+            return "lost", k, []
         words.append(answer)
     frame = [words[place % 4][0][place // 4] for place in range(892)]
     return "restored", [changed for _, changed in words], frame
 
 
-def drawn(seed, count):
-    """The highest bytes of the states after the seed."""
-    state, result = seed, []
-    for _ in range(count):
-        state = (state * 6364136223846793005 + 1442695040888963407) % 2**64
-        result.append(state >> 56)
-    return result
-
-
-def received(seed, wrong):
+def received(seed: int, wrong: list[int]) -> tuple[list[int], list[int]]:
     """The block of a drawn frame with `wrong` wrong bytes in each word, randomised."""
-    frame = drawn(seed, 892)
+    frame = list(Draw(seed).bytes(892))
     words = [encoded([frame[4 * i + k] for i in range(223)]) for k in range(4)]
     for k in range(4):
         first = (40 * seed + 7 * k) % 255
         for j in range(wrong[k]):
             words[k][(first + 15 * j + j // 17) % 255] ^= (17 * j + wrong[k] + k) % 255 + 1
     block = [words[place % 4][place // 4] for place in range(1020)]
-    return frame, [a ^ b for a, b in zip(block, SEQUENCE)]
+    return frame, randomised(block)
 
 
-def crc(data):
-    value = 0xFFFF
-    for byte in data:
-        value ^= byte << 8
-        for _ in range(8):
-            value = (value << 1 ^ 0x1021) & 0xFFFF if value & 0x8000 else value << 1
-    return value
-
-
-def main():
-    import random
-
+def main() -> None:
     draw = random.Random(1020)
     cases = [[0, 0, 0, 0], [16, 16, 16, 16], [17, 0, 0, 0], [0, 0, 0, 17]]
     cases += [[draw.randint(0, 20) for _ in range(4)] for _ in range(6)]

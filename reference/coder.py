@@ -9,23 +9,18 @@ standard's order.
 
 import sys
 
+from lines import mapped
 
-def number(value, width):
+
+def number(value: int, width: int) -> str:
     return format(value, "0%db" % width) if width else ""
 
 
-def sequence(zeros):
+def sequence(zeros: int) -> str:
     return "0" * zeros + "1"
 
 
-def mapped(before, sample, bits):
-    """2d for a difference d from 0 to t, 2|d| - 1 below 0 down to -t, and t + |d| for the others."""
-    t = min(before, 2**bits - 1 - before)
-    d = sample - before
-    return t + abs(d) if abs(d) > t else 2 * d if d >= 0 else -2 * d - 1
-
-
-def block_text(places, bits, first, reference):
+def block_text(places: list[int], bits: int, first: bool, reference: str) -> str:
     """A block that isn't all 0. In a line's first block the reference stands after the identifier, for a value."""
     width = 3 if bits <= 8 else 4
     values = places[1:] if first else places
@@ -39,7 +34,7 @@ def block_text(places, bits, first, reference):
     return name + reference + body
 
 
-def line_text(samples, bits, block):
+def line_text(samples: list[int], bits: int, block: int) -> str:
     width = 3 if bits <= 8 else 4
     blocks = -(-len(samples) // block)
     values = [0] + [mapped(p, sample, bits) for p, sample in zip(samples, samples[1:])]
@@ -59,7 +54,7 @@ def line_text(samples, bits, block):
     return text
 
 
-def main(words):
+def main(words: list[str]) -> None:
     bits, block, columns = map(int, words[-3:])
     data = sys.stdin.buffer.read()
     size = 1 if bits <= 8 else 2

@@ -1,18 +1,23 @@
 #!/usr/bin/env python3
 """The mission files of a list of good packets, computed from the definition alone, slowly.
 
-A packet is (channel, application, flags, count, body). Everything is said of whole stretches of the packets of one channel
-and application; nothing is kept from one packet to the next.
+A packet is (channel, application, flags, count, body). Everything is said of whole stretches of the packets of one
+channel and application; nothing is kept from one packet to the next.
 
-With no arguments it draws lists of packets and prints how many lists, packets and files there were and a checksum of the
-files, as the program `lr_cases` does.
+With no arguments it draws lists of packets and prints how many lists, packets and files there were and a checksum of
+the files, as the program `lr_cases` does.
 """
+
+from drawn import Draw, big, crc
+
+Packet = tuple[int, int, int, int, bytes]
+File = tuple[int, int, list[bytes]]
 
 MOST_BODIES = 1048576
 MOST_BYTES = 67108864
 
 
-def is_file(stretch):
+def is_file(stretch: list[Packet]) -> bool:
     flags = [p[2] for p in stretch]
     counts = [p[3] for p in stretch]
     size = sum(len(p[4]) for p in stretch)
@@ -24,9 +29,9 @@ def is_file(stretch):
     return marked and counted and len(stretch) <= MOST_BODIES and 10 <= size <= MOST_BYTES
 
 
-def files(packets):
+def files(packets: list[Packet]) -> list[File]:
     """All files, (channel, application, bodies), in the order of their last packets."""
-    found = []
+    found: list[File] = []
     for place, last in enumerate(packets):
         own = [p for p in packets[: place + 1] if p[:2] == last[:2]]
         ended = [own[start:] for start in range(len(own)) if is_file(own[start:])]
@@ -41,25 +46,16 @@ LISTS = 400
 KEYS = [(0, 100), (1, 100), (0, 2046)]
 
 
-class Draw:
-    def __init__(self, state):
-        self.state = state
-
-    def byte(self):
-        self.state = (self.state * 6364136223846793005 + 1442695040888963407) % 2**64
-        return self.state >> 56
-
-
 class Sender:
     """What one channel and application sends: the next count, and whether a file has begun."""
 
-    def __init__(self):
+    def __init__(self) -> None:
         self.count = 16383
         self.begun = False
 
 
-def draw_packet(draw, senders):
-    drawn = bytes(draw.byte() for _ in range(40))
+def draw_packet(draw: Draw, senders: list[Sender]) -> Packet:
+    drawn = draw.bytes(40)
     place = draw.byte() % 3
     sender = senders[place]
     kind = draw.byte() % 16
@@ -75,44 +71,29 @@ def draw_packet(draw, senders):
     return KEYS[place] + (flags, count, drawn[: draw.byte() % most])
 
 
-def crc16(data):
-    crc = 0xFFFF
-    for byte in data:
-        crc ^= byte << 8
-        for _ in range(8):
-            crc = (crc << 1 ^ 0x1021 if crc & 0x8000 else crc << 1) & 0xFFFF
-    return crc
-
-
-def text_of(file):
+def text_of(file: File) -> bytes:
     channel, application, bodies = file
-    return (
-        bytes([channel])
-        + application.to_bytes(2, "big")
-        + b"".join(len(body).to_bytes(2, "big") for body in bodies)
-        + b"".join(bodies)
-    )
+    sizes = b"".join(big(2, len(body)) for body in bodies)
+    return bytes([channel]) + big(2, application) + sizes + b"".join(bodies)
 
 
-def main():
+def main() -> None:
     draw = Draw(1)
-    sent = found = several = checksum = 0
+    sent = found = checksum = 0
     for _ in range(LISTS):
         senders = [Sender() for _ in KEYS]
         packets = [draw_packet(draw, senders) for _ in range(1 + draw.byte() % 24)]
         sent += len(packets)
         for file in files(packets):
             found += 1
-            several += len(file[2]) > 1
-            checksum = (checksum * 65599 + crc16(text_of(file))) % 2**64
+            checksum = (checksum * 65599 + crc(text_of(file))) % 2**64
     print(f"lists {LISTS} packets {sent} files {found} checksum {checksum}")
-    return several
 
 
 # ---- the worked examples
 
-def check():
-    def key(*packets, vc=0, apid=100):
+def check() -> None:
+    def key(*packets: tuple[int, int, bytes], vc: int = 0, apid: int = 100) -> list[Packet]:
         return [(vc, apid, *p) for p in packets]
 
     body = b"\0\7" + (136).to_bytes(8, "big") + bytes(16)
@@ -141,7 +122,7 @@ def check():
     assert wrapped == [(0, 100, [b"12345", b"67890"])]
     assert files(key((1, 16383, b"12345"), (2, 16384, b"67890"))) == []
     # the limits
-    def many(n, size):
+    def many(n: int, size: int) -> list[Packet]:
         ends = [(1, 0, bytes(size))] + [(0, c % 16384, b"") for c in range(1, n - 1)] + [(2, (n - 1) % 16384, b"")]
         return key(*ends)
 
@@ -149,10 +130,10 @@ def check():
     assert is_file(many(2, MOST_BYTES)) and not is_file(many(2, MOST_BYTES + 1))
 
 
-def stepwise(packets):
+def stepwise(packets: list[Packet]) -> list[File]:
     """The same by what a receiver keeps: the open stretch of each key, dropped once a limit is passed."""
-    kept = {}
-    found = []
+    kept: dict[tuple[int, int], list[Packet]] = {}
+    found: list[File] = []
     for p in packets:
         before = kept.pop(p[:2], None)
         if p[2] in (1, 3):
@@ -170,7 +151,7 @@ def stepwise(packets):
     return found
 
 
-def compare():
+def compare() -> None:
     """The definition against the steps, over drawn lists with small limits."""
     global MOST_BODIES, MOST_BYTES
     whole = MOST_BODIES, MOST_BYTES

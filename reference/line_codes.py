@@ -1,74 +1,58 @@
 #!/usr/bin/env python3
 """The nearest paths of small drawn windows under the four line codes, by trying every list of bits.
 
-Written from the definitions: levels of a list of bits, the code of a list of levels by index, the cost of symbols against
-values, and the order of two lists of levels from the last to the first. It shares no code with the crates.
+Written from the definitions: levels of a list of bits, the code of a list of levels by index, the cost of symbols
+against values, and the order of two lists of levels from the last to the first. It shares no code with the crates.
 
-Prints for each line code and each kind of drawn values the bits of ten windows of eight bits, as bytes, the first bit the
-most significant one; and the symbols 12 to 63 of the marker.
+Prints for each line code and each kind of drawn values the bits of ten windows of eight bits, as bytes, the first bit
+the most significant one; and the symbols 12 to 63 of the marker.
 """
+from collections.abc import Iterable
 from itertools import product
 
-MARKER = [0x1ACFFC1D >> (31 - i) & 1 for i in range(32)]
+import downlink
+from downlink import coded, levels_of
+from drawn import Draw
+
+MARKER = downlink.bits_of(downlink.MARKER)
 
 
-def levels(marks, level, bits):
-    if not marks:
-        return list(bits)
-    out = []
-    for bit in bits:
-        level ^= bit
-        out.append(level)
-    return out
+def past(marks: bool) -> list[int]:
+    return levels_of(MARKER, marks)[-6:]
 
 
-def code(inverted, past, y):
-    t = list(past) + list(y)
-    out = []
-    for i in range(len(y)):
-        b = [t[6 + i - j] for j in range(7)]
-        out.append((b[0] + b[1] + b[2] + b[3] + b[6]) % 2)
-        out.append((inverted + b[0] + b[2] + b[3] + b[5] + b[6]) % 2)
-    return out
-
-
-def past(marks):
-    return levels(marks, 0, MARKER)[-6:]
-
-
-def value(v):
+def value(v: int) -> int:
     return -127 if v == -128 else v
 
 
-def cost(symbols, values):
+def cost(symbols: list[int], values: list[int]) -> int:
     return sum(127 - value(v) if s else 127 + value(v) for s, v in zip(symbols, values))
 
 
-def nearest(marks, inverted, window):
+def nearest(marks: bool, inverted: int, window: list[int]) -> tuple[int, ...]:
     n = (len(window) - 12) // 2
     before = past(marks)
     z = before[-1]
-    best = None
+    best: tuple[int, list[int], tuple[int, ...]] | None = None
     for x in product([0, 1], repeat=n):
-        y = levels(marks, z, list(x) + MARKER[:6])
-        price = cost(code(inverted, before, y), window)
-        key = (price, y[:n][::-1])
-        if best is None or key < best[0]:
-            best = (key, x)
-    return best[1]
+        y = levels_of([*x, *MARKER[:6]], marks, z)
+        price = cost(coded(before + y, inverted), window)
+        found = (price, y[:n][::-1], x)
+        if best is None or found < best:
+            best = found
+    assert best is not None
+    return best[2]
 
 
-def drawn(start, values):
-    state, window = start, []
-    for _ in range(28):
-        state = (state * 6364136223846793005 + 1442695040888963407) % 2**64
-        draw = state >> 56
+def drawn(start: int, values: str) -> list[int]:
+    window = []
+    for draw in Draw(start).bytes(28):
         kinds = {"all": -127 if draw == 0 else draw - 128, "two": draw % 2 - 1, "three": draw % 3 - 1}
         window.append(kinds[values])
     return window
 
 
-def number(bits):
+def number(bits: Iterable[int]) -> int:
     total = 0
     for bit in bits:
         total = 2 * total + bit
@@ -78,7 +62,7 @@ def number(bits):
 if __name__ == "__main__":
     for marks in (False, True):
         for inverted in (1, 0):
-            tail = code(inverted, [0] * 6, levels(marks, 0, MARKER))[12:]
+            tail = coded([0] * 6 + levels_of(MARKER, marks), inverted)[12:]
             name = ("marks" if marks else "levels") + (" inverted" if inverted else " plain")
             print(name, "tail %013X" % number(tail), "past", *past(marks))
             for values in ("all", "two", "three"):

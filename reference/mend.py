@@ -10,37 +10,19 @@ a checksum of the files, as the program `lr_cases` does.
 """
 
 from dataclasses import dataclass, replace
+from functools import cache
 
-from files import Draw, crc16, files, is_file
+from drawn import Draw, big, crc
+from files import Packet, files, is_file
+from headers import fault_of, first, is_encrypted, number, structure
 
 COUNTS = 16384
 MOST_BODY = 65534
 MOST_BYTES = 67108864
 MOST_FILLERS = 1023
 
-Packet = tuple[int, int, int, int, bytes]
-
 
 # ---- which images can be mended
-
-
-def records_of(proper: bytes) -> list[tuple[int, bytes]] | None:
-    """The records of a whole header, as their kinds and contents, or None."""
-    if len(proper) < 16 or proper[:3] != b"\0\0\x10":
-        return None
-    end = int.from_bytes(proper[4:8], "big")
-    if not 16 <= end <= len(proper):
-        return None
-    records, place = [], 0
-    while place < end:
-        kind, length = proper[place], int.from_bytes(proper[place + 1 : place + 3], "big")
-        if place + 3 > end or length < 3 or place + length > end:
-            return None
-        if length != {1: 9, 2: 51, 5: 10}.get(kind, length):
-            return None
-        records.append((kind, proper[place + 3 : place + length]))
-        place += length
-    return records
 
 
 @dataclass(frozen=True)
@@ -60,26 +42,24 @@ def units(coded: bool, data: bytes) -> int:
     return min(1, len(data)) if coded else len(data)
 
 
+@cache
 def begun(packet: Packet) -> Image | None:
     """The image that a packet with flags 1 opens."""
     proper = packet[4][10:]
-    records = records_of(proper)
-    if records is None or proper[3] != 0:
+    if fault_of(proper) or proper[3] != 0 or is_encrypted(proper):
         return None
-    first = {kind: content for kind, content in reversed(records)}
-    if 1 not in first or any(any(content) for kind, content in records if kind == 7):
+    image, lossless = first(proper, 1), first(proper, 131)
+    if image is None:
         return None
-    bits, coding = first[1][0], first[1][5]
-    columns, lines = (int.from_bytes(first[1][at : at + 2], "big") for at in (1, 3))
+    bits, columns, lines, coding = structure(image)
     if not columns or not lines or columns * lines > 1 << 28 or coding > 1:
         return None
-    data = proper[int.from_bytes(proper[4:8], "big") :]
+    data = proper[number(proper[4:8]) :]
     if coding == 0:
         if not 1 <= bits <= 16:
             return None
         total = -(-bits * columns * lines // 8)
     else:
-        lossless = next((c for kind, c in records if kind == 131 and len(c) == 4), None)
         if lossless is None or not 5 <= bits <= 16 or not lossless[1] & 32 or not lossless[3]:
             return None
         if lossless[2] % 2 or not 2 <= lossless[2] <= 64:
@@ -239,7 +219,7 @@ def header_of(kind: int, lines: int, each: int, drawn: bytes) -> bytes:
 
 def draw_packet(draw: Draw, senders: list[Sender]) -> tuple[Packet, int]:
     """A packet, and how often it comes: mostly once."""
-    drawn = bytes(draw.byte() for _ in range(DRAWN))
+    drawn = draw.bytes(DRAWN)
     place = draw.byte() % 3
     sender = senders[place]
     if sender.left == 0:
@@ -279,13 +259,8 @@ def draw_history(draw: Draw) -> list[Packet]:
 
 def text_of(file: tuple[int, int, int, list[bytes]]) -> bytes:
     channel, application, fillers, bodies = file
-    return (
-        bytes([channel])
-        + application.to_bytes(2, "big")
-        + fillers.to_bytes(2, "big")
-        + b"".join(len(body).to_bytes(2, "big") for body in bodies)
-        + b"".join(bodies)
-    )
+    sizes = b"".join(big(2, len(body)) for body in bodies)
+    return bytes([channel]) + big(2, application) + big(2, fillers) + sizes + b"".join(bodies)
 
 
 def main() -> None:
@@ -297,7 +272,7 @@ def main() -> None:
         for file in mended_files(MOSTS[number % 4], packets):
             found += 1
             made += file[2]
-            checksum = (checksum * 65599 + crc16(text_of(file))) % 2**64
+            checksum = (checksum * 65599 + crc(text_of(file))) % 2**64
     print(f"mended {HISTORIES} packets {sent} files {found} fillers {made} checksum {checksum}")
 
 
@@ -327,8 +302,8 @@ def check() -> None:
     assert gaps(16, one) == [(0, 102, zeros)]
     (file,) = mended_files(16, one)
     text = b"gomtasil mended 2 of 5"
-    first = image[:14] + (25 + 25).to_bytes(4, "big") + image[18:] + b"\6\0\x19" + text
-    assert file == (13, 313, 1, [first, a, zeros, c, z])
+    longer = image[:14] + (25 + 25).to_bytes(4, "big") + image[18:] + b"\6\0\x19" + text
+    assert file == (13, 313, 1, [longer, a, zeros, c, z])
     assert mended_files(0, one) == []
     wrapped = key((1, 16382, image), (0, 1, c), (2, 2, z))
     assert gaps(16, wrapped) == [(0, 16383, zeros), (0, 0, zeros)]

@@ -7,13 +7,18 @@ their joined zones; nothing is kept from one frame to the next.
 With no arguments it draws histories and prints their numbers and a checksum, as the program `lr_cases` does.
 """
 
+from drawn import Draw
+
+Frame = tuple[int, int, int, bytes]
+Run = list[tuple[int, Frame]]  # frames, each with its place among all
+
 ZONE = 884
 FILL = 63
 
 
-def runs(frames):
+def runs(frames: list[Frame]) -> list[Run]:
     """The runs of all channels but fill: lists of (place among all frames, frame)."""
-    found = []
+    found: list[Run] = []
     for channel in range(FILL):
         own = [(place, f) for place, f in enumerate(frames) if f[0] == channel]
         for i, (place, f) in enumerate(own):
@@ -24,25 +29,25 @@ def runs(frames):
     return found
 
 
-def packets_of_run(run):
+def packets_of_run(run: Run) -> list[tuple[int, int, int, bytes]]:
     """The delivered packets of a run: (place of the frame in which it ends, start, channel, bytes)."""
     joined = b"".join(f[3] for _, f in run)
     pointer = [f[2] for _, f in run]
 
-    def end(s):
+    def end(s: int) -> int | None:
         if s + 6 > len(joined):
             return None
         return s + 7 + joined[s + 4] * 256 + joined[s + 5]
 
-    starts = []
+    starts: list[tuple[int, int]] = []
     for t in range(len(run)):
         if pointer[t] <= 883:
             of_zone = [ZONE * t + pointer[t]]
-            while end(of_zone[-1]) is not None and end(of_zone[-1]) < ZONE * (t + 1):
-                of_zone.append(end(of_zone[-1]))
+            while (place := end(of_zone[-1])) is not None and place < ZONE * (t + 1):
+                of_zone.append(place)
             starts += [(t, s) for s in of_zone]
 
-    def agrees(u, e):
+    def agrees(u: int, e: int) -> bool:
         if ZONE * (u + 1) <= e:
             return pointer[u] == 2047
         if ZONE * u < e < ZONE * (u + 1):
@@ -60,7 +65,7 @@ def packets_of_run(run):
     return found
 
 
-def packets(frames):
+def packets(frames: list[Frame]) -> list[tuple[int, bytes]]:
     """All delivered packets, (channel, bytes), ordered by the frame in which they end and then by their start."""
     found = [p for run in runs(frames) for p in packets_of_run(run)]
     found.sort(key=lambda p: (p[0], p[1]))
@@ -73,28 +78,15 @@ HISTORIES = 400
 CHANNELS = [0, 1, 62, 63]
 
 
-class Draw:
-    def __init__(self, state):
-        self.state = state
-
-    def byte(self):
-        self.state = (self.state * 6364136223846793005 + 1442695040888963407) % 2**64
-        return self.state >> 56
-
-    def below(self, n):
-        """A number below n, which is at most 65536."""
-        return (self.byte() * 256 + self.byte()) % n
-
-
 class Sender:
-    """A channel's packets as bytes: how many of the packet are sent, how long it is, and the counter of the next frame."""
+    """A channel's packets as bytes: how many of the packet are sent, its length, and the counter of the next frame."""
 
-    def __init__(self, draw):
+    def __init__(self, draw: Draw) -> None:
         self.sent = 0
         self.length = 0
         self.counter = 2**24 - 1 - draw.below(3)
 
-    def next_length(self, draw, place):
+    def next_length(self, draw: Draw, place: int) -> int:
         """The length of a packet that starts at this place of a zone."""
         kind = draw.byte() % 16
         left = ZONE - place
@@ -113,7 +105,7 @@ class Sender:
         return max(length, 7)
 
 
-def draw_frame(draw, senders):
+def draw_frame(draw: Draw, senders: list[Sender]) -> Frame:
     index = [0, 0, 0, 0, 1, 1, 2, 3][draw.byte() % 8]
     channel = CHANNELS[index]
     sender = senders[index]
@@ -153,11 +145,10 @@ def draw_frame(draw, senders):
     return (channel, counter, pointer, bytes(zone))
 
 
-def main():
+def main() -> None:
     draw = Draw(1)
     count = 0
     delivered = 0
-    across = 0
     checksum = 14695981039346656037
     for _ in range(HISTORIES):
         senders = [Sender(draw) for _ in CHANNELS]
@@ -165,30 +156,28 @@ def main():
         count += len(frames)
         for channel, data in packets(frames):
             delivered += 1
-            across += len(data) > 884
             for byte in bytes([channel]) + data:
                 checksum = (checksum ^ byte) * 1099511628211 % 2**64
     print(f"histories {HISTORIES} frames {count} packets {delivered} checksum {checksum}")
-    return across
 
 
 # ---- the worked examples
 
-def idle(length_field):
+def idle(length_field: int) -> bytes:
     return bytes.fromhex("07FFC000") + length_field.to_bytes(2, "big") + bytes(length_field + 1)
 
 
 GOOD = bytes.fromhex("0064C000000A31323334353637383929B1")
 
 
-def check():
+def check() -> None:
     one = (0, 0, 0, GOOD + idle(0x35C))
     assert len(one[3]) == ZONE
     assert packets([one]) == [(0, GOOD), (0, idle(0x35C))]
     first = (0, 2**24 - 1, 0, idle(0x36A) + GOOD[:3])
     assert len(first[3]) == ZONE
 
-    def second(counter, pointer):
+    def second(counter: int, pointer: int) -> Frame:
         zone = GOOD[3:] + idle(0x35F)
         assert len(zone) == ZONE
         return (0, counter, pointer, zone)

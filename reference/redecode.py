@@ -19,17 +19,17 @@ happened to the window, and the outcomes after 1, 2, 3 and 4 passes.
 import sys
 from dataclasses import dataclass
 from itertools import product
-from typing import Callable, Optional
+from typing import Optional
 
-import blocks
+import downlink
+from blocks import SEQUENCE, encoded, randomised, restored
+from downlink import bits_of
+from drawn import Draw
 
-MASK = (1 << 64) - 1
-MARKER = [0x1ACFFC1D >> (31 - i) & 1 for i in range(32)]
+MARKER = bits_of(downlink.MARKER)
 DATA_BITS = 8160
 Word = list[int]
 Pins = list[Optional[int]]
-encoded: Callable[[Word], Word] = blocks.encoded
-restored: Callable[[Word], Optional[tuple[Word, int]]] = blocks.restored
 
 
 @dataclass(frozen=True)
@@ -63,11 +63,7 @@ def pair(line: LineCode, levels: tuple[int, ...]) -> tuple[int, int]:
 
 
 def marker_levels(line: LineCode) -> list[int]:
-    level, out = 0, []
-    for bit in MARKER:
-        level = line.level(level, bit)
-        out.append(level)
-    return out
+    return downlink.levels_of(MARKER, line.marks)
 
 
 def cost(symbols: tuple[int, int], values: list[int], at: int) -> int:
@@ -117,27 +113,19 @@ def nearest_of_all(line: LineCode, values: list[int], pins: Pins) -> list[int]:
     return best[2]
 
 
-class Draws:
-    def __init__(self, seed: int) -> None:
-        self.state = seed
-
-    def next(self) -> int:
-        self.state = (self.state * 6364136223846793005 + 1442695040888963407) & MASK
-        return self.state
-
-    def bytes_sum(self) -> int:
-        """The sum of the four highest bytes of two states."""
-        return sum(state >> shift & 255 for state in (self.next(), self.next()) for shift in (56, 48, 40, 32))
+def bytes_sum(draw: Draw) -> int:
+    """The sum of the four highest bytes of two states."""
+    return sum(state >> shift & 255 for state in (draw.step(), draw.step()) for shift in (56, 48, 40, 32))
 
 
 def check(windows: int) -> None:
     """Short windows: all strings give what the search gives, ties and pins included."""
     for seed in range(1, windows + 1):
-        draws = Draws(seed)
+        draws = Draw(seed)
         line = LINES[seed % 4]
         spread = (3, 5, 255)[seed % 3]
-        values = [(draws.next() >> 56) % spread - spread // 2 for _ in range(2 * 10 + 12)]
-        pins: Pins = [(None, None, 0, 1)[draws.next() >> 62] for _ in range(10)]
+        values = [draws.byte() % spread - spread // 2 for _ in range(2 * 10 + 12)]
+        pins: Pins = [(None, None, 0, 1)[draws.step() >> 62] for _ in range(10)]
         assert nearest(line, values, pins) == nearest_of_all(line, values, pins), seed
 
 
@@ -158,22 +146,17 @@ def sent_block(planted: str) -> list[int]:
 
 def coded(line: LineCode, block: list[int]) -> list[int]:
     """The symbols of a window: those of the randomised block, and of the next marker's first six bits."""
-    bits = [byte >> (7 - k) & 1 for byte in (a ^ b for a, b in zip(block, blocks.SEQUENCE)) for k in range(8)]
-    state = tuple(marker_levels(line)[:-7:-1])
-    symbols: list[int] = []
-    for bit in bits + MARKER[:6]:
-        level = line.level(state[0], bit)
-        symbols.extend(pair(line, (level, *state)))
-        state = (level, *state[:5])
-    return symbols
+    past = marker_levels(line)[-6:]
+    bits = bits_of(randomised(block)) + MARKER[:6]
+    return downlink.coded(past + downlink.levels_of(bits, line.marks, past[-1]), line.inverted)
 
 
 def window(case: Case) -> list[int]:
-    draws = Draws(case.seed)
+    draws = Draw(case.seed)
     mean = 1020 * case.level >> 8
     values = []
     for symbol in coded(LINES[case.line], sent_block(case.planted)):
-        value = (64 if symbol else -64) + (draws.bytes_sum() * case.level >> 8) - mean
+        value = (64 if symbol else -64) + (bytes_sum(draws) * case.level >> 8) - mean
         values.append((1 if value > 0 else -1) if case.hard else max(-127, min(127, value)))
     return values[: len(values) - case.silent] + [0] * case.silent
 
@@ -183,7 +166,7 @@ def pins_of(known: list[Optional[Word]]) -> Pins:
     pins: Pins = []
     for place in range(1020):
         word = known[place % 4]
-        byte = None if word is None else word[place // 4] ^ blocks.SEQUENCE[place]
+        byte = None if word is None else word[place // 4] ^ SEQUENCE[place]
         pins.extend(None if byte is None else byte >> (7 - k) & 1 for k in range(8))
     return pins
 
@@ -192,7 +175,7 @@ def words_by(line: LineCode, values: list[int], known: list[Optional[Word]]) -> 
     """The words of the nearest path that agrees with what is known."""
     bits = nearest(line, values, pins_of(known))
     data = [int("".join(map(str, bits[i : i + 8])), 2) for i in range(0, DATA_BITS, 8)]
-    plain = [a ^ b for a, b in zip(data, blocks.SEQUENCE)]
+    plain = randomised(data)
     return [plain[k::4] for k in range(4)]
 
 

@@ -5,65 +5,55 @@ A file is (channel, application, bodies). With no arguments it prints the header
 expect, each as bytes in hexadecimal.
 """
 
-
-def crc(data):
-    rest = 0xFFFF
-    for byte in data:
-        rest ^= byte << 8
-        for _ in range(8):
-            rest = (rest << 1 ^ 0x1021 if rest & 0x8000 else rest << 1) & 0xFFFF
-    return rest
+from drawn import big, crc
+from files import File
 
 
-def big(count, number):
-    return number.to_bytes(count, "big")
-
-
-def sealed(data):
+def sealed(data: bytes) -> bytes:
     return data + big(2, crc(data))
 
 
-def header(version, capacity):
+def header(version: int, capacity: int) -> bytes:
     named = b"LRSHELF" + bytes([version]) + big(8, capacity)
     return b"\x5A" + sealed(named)
 
 
-def fields(file):
+def fields(file: File) -> bytes:
     channel, application, bodies = file
     return bytes([channel]) + big(2, application) + big(4, len(bodies)) + big(4, sum(map(len, bodies)))
 
 
-def body(file):
+def body(file: File) -> bytes:
     return b"".join(big(2, len(one)) for one in file[2]) + b"".join(file[2])
 
 
-def old(file):
+def old(file: File) -> bytes:
     return sealed(fields(file) + body(file))
 
 
-def add(file, origin):
+def add(file: File, origin: tuple[int, int, int]) -> bytes:
     return sealed(b"\x80" + fields(file) + b"".join(big(8, number) for number in origin) + body(file))
 
 
-def discard(number):
+def discard(number: int) -> bytes:
     return sealed(b"\x81" + big(8, number))
 
 
-def shelf(version, capacity, items):
+def shelf(version: int, capacity: int, items: list[bytes]) -> bytes:
     return header(version, capacity) + b"".join(b"\x01" + item for item in items) + b"\x00"
 
 
-def show(name, data):
+def show(name: str, data: bytes) -> None:
     print(name, len(data))
     for place in range(0, len(data), 16):
         print("   ", data[place:place + 16].hex(" "))
 
 
 if __name__ == "__main__":
-    first = (0, 100, [bytes(range(26))])
-    second = (5, 7, [bytes(range(10))])
+    first: File = (0, 100, [bytes(range(26))])
+    second: File = (5, 7, [bytes(range(10))])
     # the file of one packet that declares 136 bits and has 128
-    differs = (0, 100, [b"\x00\x07" + big(8, 136) + b"\x00\x00\x10\x02\x00\x00\x00\x10" + bytes(8)])
+    differs: File = (0, 100, [b"\x00\x07" + big(8, 136) + b"\x00\x00\x10\x02\x00\x00\x00\x10" + bytes(8)])
     show("header of version 2, capacity 100", header(2, 100) + b"\x00")
     show("header of version 1, capacity 100", header(1, 100) + b"\x00")
     show("old item of the first file", old(first))
@@ -71,9 +61,10 @@ if __name__ == "__main__":
     show("add item of the second file, outcomes 0 to 0, none changed", add(second, (0, 0, 0)))
     show("discards of 0 and 1", discard(0) + discard(1))
     show("shelf of version 1, capacity 200, with the file that differs", shelf(1, 200, [old(differs)]))
-    next_one = (0, 100, [b"\x00\x08" + differs[2][0][2:]])
+    next_one: File = (0, 100, [b"\x00\x08" + differs[2][0][2:]])
     both = [add(differs, (0, 0, 0)), add(next_one, (1, 1, 0))]
-    show("shelf of version 2, capacity 65,536, with the file that differs, and with the next one", shelf(2, 65536, both))
+    name = "shelf of version 2, capacity 65,536, with the file that differs, and with the next one"
+    show(name, shelf(2, 65536, both))
     show("header of version 2, capacity 1,048,576", header(2, 1048576))
     changed = bytearray(old(first))
     changed[20] = 0x47

@@ -8,9 +8,13 @@ import subprocess
 import sys
 import threading
 import time
+from collections.abc import Iterable, Sequence
+from typing import IO
 
-sys.path.insert(0, os.path.join(os.path.dirname(os.path.abspath(__file__)), "..", "reference"))
-from uplink import checksum, packet  # noqa: E402
+from downlink import frame_of_file, primary, record
+from drawn import big
+
+Done = subprocess.CompletedProcess[bytes]
 
 PROGRAM, FOLDER, CALLS = sys.argv[1], sys.argv[2], int(sys.argv[3])
 SHELF = os.path.join(FOLDER, "shelf")
@@ -24,49 +28,40 @@ SLOWED = ["strace", "-f", "-o", "/dev/null", "-e", "trace=pread64", "-e", "injec
 IS_PLAIN = sys.argv[4:] == ["plain"]
 
 
-def lines_of(number):
+def lines_of(number: int) -> int:
     return 1 + number * 37 % 40
 
 
-def pixels(number):
+def pixels(number: int) -> bytes:
     return bytes((number + place) & 255 for place in range(WIDTH * lines_of(number)))
 
 
-def pgm(lines, content):
+def pgm(lines: int, content: bytes) -> bytes:
     return b"P5\n%d %d\n255\n" % (WIDTH, lines) + content
 
 
-def proper(number):
+def proper(number: int) -> bytes:
     """The file of this number after its transport header: an image of 8 columns, one of two segments of an image."""
-    structure = bytes([1, 0, 9, 8]) + WIDTH.to_bytes(2, "big") + lines_of(number).to_bytes(2, "big") + bytes([0])
+    structure = record(1, bytes([8]) + big(2, WIDTH) + big(2, lines_of(number)) + bytes([0]))
     first = number - number % 2
     start = lines_of(first) if number % 2 else 0
     fields = (number // 2 & 0xFFFF, number % 2, 0, start, 2, WIDTH, lines_of(first) + lines_of(first + 1))
-    segment = bytes([128, 0, 17]) + b"".join(field.to_bytes(2, "big") for field in fields)
-    sizes = (16 + len(structure + segment)).to_bytes(4, "big") + (8 * len(pixels(number))).to_bytes(8, "big")
-    return bytes([0, 0, 16, 0]) + sizes + structure + segment + pixels(number)
+    records = structure + record(128, b"".join(big(2, field) for field in fields))
+    return primary(0, 16 + len(records), 8 * len(pixels(number))) + records + pixels(number)
 
 
-def frame(number):
-    content = proper(number)
-    body = (number & 0xFFFF).to_bytes(2, "big") + (8 * len(content)).to_bytes(8, "big") + content
-    good = packet(100, 3, number & 0x3FFF, body + checksum(body))
-    zone = good + packet(2047, 3, 0, bytes(884 - len(good) - 6))
-    return bytes([0x40, 0x40]) + (number & 0xFFFFFF).to_bytes(3, "big") + bytes(3) + zone
-
-
-def run(*words, before=()):
+def run(*words: str, before: Sequence[str] = ()) -> Done:
     return subprocess.run([*before, PROGRAM, SHELF, *words], stdout=subprocess.PIPE, stderr=subprocess.PIPE)
 
 
-def must(*words):
+def must(*words: str) -> bytes:
     done = run(*words)
     if done.returncode != 0:
         sys.exit(f"beside: {' '.join(words)} ended with {done.returncode}: {done.stderr.decode()}")
     return done.stdout
 
 
-def images_in(text):
+def images_in(text: bytes) -> list[bytes]:
     """The images of `render`, one after another."""
     images = []
     while text:
@@ -81,19 +76,23 @@ def images_in(text):
 class Readers:
     """Threads that call the program again and again, and what was wrong with the calls."""
 
-    def __init__(self, gone=()):
+    def __init__(self, gone: Iterable[int] = ()) -> None:
         self.lock = threading.Lock()
-        self.calls, self.slowed, self.statuses, self.wrong = 0, 0, {}, []
+        self.calls, self.slowed, self.wrong = 0, 0, list[str]()
+        self.statuses: dict[tuple[str, int], int] = {}
         # how many files there are at least, and the lists, checks and sent pairs to hold against the last ones
-        self.known, self.lists, self.checks, self.pairs = 0, [], [], []
+        self.known = 0
+        self.lists: list[list[bytes]] = []
+        self.checks: list[list[bytes]] = []
+        self.pairs: list[tuple[int, bytes]] = []
         # the files that may be discarded, and those of which a coded copy stands at the end, in order
-        self.gone, self.copied = set(gone), []
+        self.gone, self.copied = set(gone), list[int]()
         self.going = True
         self.threads = [threading.Thread(target=self.work, args=(seed,)) for seed in range(READERS)]
         for thread in self.threads:
             thread.start()
 
-    def work(self, seed):
+    def work(self, seed: int) -> None:
         draw = random.Random(seed)
         while self.going:
             # the last reader is slowed, and the one before it now and then
@@ -103,7 +102,7 @@ class Readers:
                 kind = "show"
             self.call(kind, draw, slowed)
 
-    def call(self, kind, draw, slowed):
+    def call(self, kind: str, draw: random.Random, slowed: bool) -> None:
         with self.lock:
             known = self.known
         if kind in ONE:
@@ -129,11 +128,11 @@ class Readers:
             key = (kind, done.returncode)
             self.statuses[key] = self.statuses.get(key, 0) + 1
 
-    def bad(self, text):
+    def bad(self, text: str) -> None:
         with self.lock:
             self.wrong.append(text)
 
-    def held(self, kind, number, done):
+    def held(self, kind: str, number: int, done: Done) -> None:
         """One file: its bytes or its image as it was sent, or 13 where it is discarded meanwhile."""
         if done.returncode == 13 and number in self.gone and not done.stdout:
             return
@@ -144,9 +143,9 @@ class Readers:
         elif kind == "export" and number < sent() and done.stdout != pgm(lines_of(number), pixels(number)):
             self.bad(f"export {number} wrote another image")
         elif kind == "show" and not done.stdout.startswith(b"file %d " % number):
-            self.bad(f"show {number} printed {done.stdout[:60]}")
+            self.bad(f"show {number} printed {done.stdout[:60]!r}")
 
-    def held_pair(self, kind, first, done):
+    def held_pair(self, kind: str, first: int, done: Done) -> None:
         """Two files, sent or put together: with a file that may be discarded meanwhile only the status is looked at."""
         if first in self.gone or first + 1 in self.gone:
             if done.returncode not in (0, 8):
@@ -161,13 +160,14 @@ class Readers:
             if done.stdout != whole or done.stderr != b"assembled 2 skipped 0 uncovered 0\n":
                 self.bad(f"assemble {first} wrote another image, or told {done.stderr.decode().strip()}")
 
-    def held_all(self, kind, known, done):
+    def held_all(self, kind: str, known: int, done: Done) -> None:
         """All files: at least as many as were known before the call."""
         if done.returncode != 0:
             self.bad(f"{kind} ended with {done.returncode}: {done.stderr.decode().strip()}")
             return
         if kind == "render":
-            return self.held_images(known, done)
+            self.held_images(known, done)
+            return
         lines = done.stdout.splitlines()
         count = len(lines) - 1 if kind == "list" else len(lines)
         if count < known:
@@ -179,7 +179,7 @@ class Readers:
             else:
                 self.checks.append(lines)
 
-    def held_images(self, known, done):
+    def held_images(self, known: int, done: Done) -> None:
         """Each image in its place, but for files that may be discarded meanwhile, then those of the coded copies."""
         images = images_in(done.stdout)
         if done.stderr != b"rendered %d skipped 0\n" % len(images):
@@ -198,12 +198,12 @@ class Readers:
         elif entries < known:
             self.bad(f"render wrote the images of {entries} entries, and {known} were there before")
 
-    def end(self):
+    def end(self) -> None:
         self.going = False
         for thread in self.threads:
             thread.join()
 
-    def compare(self):
+    def compare(self) -> None:
         """Each list and each check is a front of the last one, but for files that were discarded meanwhile, and what
         was sent is what is sent now."""
         listed, verified = must("list").splitlines()[:-1], must("verify").splitlines()
@@ -211,7 +211,7 @@ class Readers:
             for lines in texts:
                 for number, (line, now) in enumerate(zip(lines, last)):
                     if line != now and number not in self.gone:
-                        self.bad(f"{kind} printed {line} for {now}")
+                        self.bad(f"{kind} printed {line!r} for {now!r}")
                 if len(lines) > len(last):
                     self.bad(f"{kind} printed {len(lines)} lines, and {len(last)} stand")
         firsts = {first for first, _ in self.pairs}
@@ -220,7 +220,7 @@ class Readers:
             if text != sends[first]:
                 self.bad(f"transmit {first} wrote other symbols")
 
-    def told(self, beside):
+    def told(self, beside: str) -> int:
         self.compare()
         counts = ", ".join(f"{kind} {status}: {count}" for (kind, status), count in sorted(self.statuses.items()))
         calls = f"{self.calls} calls beside {beside}, {self.slowed} of them slowed"
@@ -233,27 +233,28 @@ class Readers:
 SENT = [0]
 
 
-def sent():
+def sent() -> int:
     return SENT[0]
 
 
-def feed(pipe, ends):
+def feed(pipe: IO[bytes], ends: threading.Event) -> None:
     """Frames at a steady rate until the event comes."""
     begun = time.monotonic()
     while not ends.is_set():
         due = int((time.monotonic() - begun) * FILES_A_SECOND) - SENT[0]
         if due > 0:
             SENT[0] += due
-            pipe.write(b"".join(frame(number) for number in range(SENT[0] - due, SENT[0])))
+            pipe.write(b"".join(frame_of_file(100, number, proper(number)) for number in range(SENT[0] - due, SENT[0])))
             pipe.flush()
         time.sleep(0.005)
     pipe.close()
 
 
-def beside_receive(calls):
+def beside_receive(calls: int) -> int:
     receiver = subprocess.Popen(
         [PROGRAM, SHELF, "receive", "--input", "frames"],
         stdin=subprocess.PIPE, stdout=subprocess.PIPE, stderr=subprocess.PIPE)
+    assert receiver.stdin and receiver.stdout and receiver.stderr
     ends = threading.Event()
     feeder = threading.Thread(target=feed, args=(receiver.stdin, ends))
     drain = threading.Thread(target=receiver.stdout.read)
@@ -271,7 +272,7 @@ def beside_receive(calls):
     return readers.told(f"receive of {sent()} files, {FILES_A_SECOND} a second")
 
 
-def beside_changes(calls):
+def beside_changes(calls: int) -> int:
     """Entries are discarded and images coded anew while readers are there."""
     count = sent()
     gone = random.Random(1).sample(range(count), count // 4)
@@ -298,7 +299,7 @@ def beside_changes(calls):
     return readers.told(f"{discards} calls of discard and {repacks} of repack")
 
 
-def main():
+def main() -> None:
     must("init", "4000000000")
     wrong = beside_receive(CALLS)
     wrong += beside_changes(CALLS // 3)

@@ -15,4 +15,4 @@ scratch_folder
 find_program
 cp "$LRITSTATION" "$scratch/lritstation"
 
-PYTHONPATH=$top/reference python3 "$top/trials/kill.py" "$scratch" "$rounds" "$frames"
+python3 "$top/trials/kill.py" "$scratch" "$rounds" "$frames"

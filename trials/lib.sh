@@ -4,7 +4,7 @@
 top=$(cd "$(dirname "$0")/.." && pwd) || exit 1
 name=$(basename "$(dirname "$(realpath "$0")")")/${0##*/}
 cases=0
-export PYTHONDONTWRITEBYTECODE=1
+export PYTHONDONTWRITEBYTECODE=1 PYTHONPATH="$top/reference:$top/tools"
 
 fail() {
     echo "$name: $1"

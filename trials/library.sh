@@ -107,7 +107,7 @@ same() {
 }
 
 : > none
-PYTHONPATH=$top/tools python3 -m gomtasil sample > frames || fail "the sample wasn't drawn"
+python3 -m gomtasil sample > frames || fail "the sample wasn't drawn"
 : > shelf
 same none list
 same none init 1000000

@@ -19,9 +19,8 @@ import subprocess
 import sys
 from collections.abc import Iterable
 
-sys.path.insert(0, str(pathlib.Path(__file__).resolve().parent.parent / "tools"))
-from gomtasil import sample, xrit  # noqa: E402
-from gomtasil import shelf as shelves  # noqa: E402
+from gomtasil import sample, xrit
+from gomtasil import shelf as shelves
 
 FRAME = 892
 CHANNEL, APPLICATION = 13, 313

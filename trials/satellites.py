@@ -13,7 +13,6 @@ import warnings
 
 import numpy
 
-sys.path.append(os.path.join(os.path.dirname(os.path.dirname(os.path.abspath(__file__))), "tools"))
 warnings.filterwarnings("ignore")
 from gomtasil import sample, segments, xrit
 

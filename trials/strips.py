@@ -1,34 +1,32 @@
 """What `strips.sh` runs: its head says what it does."""
 
-import hashlib, os, subprocess, sys, threading, time
+import hashlib
+import subprocess
+import sys
+import threading
+import time
 
-import lines, make
+import lines
+from downlink import frames_of_files, primary, record, transport
+from drawn import big
+from pictures import shape_of
 
 BITS, BLOCK, COLUMNS, LINES, PIECES, IMAGES = 10, 16, 5500, 10, 32, 24
 RUNS = 5  # of which the one counts in which the first thread took the least time
 MOST = 0.85  # of the time that it takes alone
 
 
-def frames():
+def frames() -> bytes:
     """The frames of an image in which the same ten lines stand again and again."""
     rows = [list(row) for row in lines.drawn_lines(BITS, COLUMNS, LINES, 1)]
-    piece = list(lines.packed("".join(lines.code_line(row, BITS, BLOCK) for row in rows)))
-    shape = [BITS] + make.number(COLUMNS, 2) + make.number(LINES * PIECES, 2) + [1]
-    records = make.record(1, shape) + make.record(131, make.number(49, 2) + [BLOCK, LINES])
-    header = make.primary(0, 16 + len(records), 8 * PIECES * len(piece)) + records
-    bodies = [make.transport(0, 8 * (len(header) + PIECES * len(piece))) + header] + [piece] * PIECES
-    packets = []
-    for place, body in enumerate(bodies):
-        flags = (1 if place == 0 else 0) + (2 if place + 1 == len(bodies) else 0)
-        packets.append(make.packet(300, flags, place, body))
-    size = sum(map(len, packets))
-    count = size // make.ZONE + 1
-    left = count * make.ZONE - size
-    packets.append(make.number((2047 << 32) + (3 << 30) + max(left, 7) - 7, 6) + [0] * (max(left, 7) - 6))
-    return b"".join(bytes(one) for one in make.channel_frames(1, packets, count))
+    piece = lines.packed("".join(lines.code_line(row, BITS, BLOCK) for row in rows))
+    records = shape_of(BITS, COLUMNS, LINES * PIECES, 1) + record(131, big(2, 49) + bytes([BLOCK, LINES]))
+    header = primary(0, 16 + len(records), 8 * PIECES * len(piece)) + records
+    first = transport(0, 8 * (len(header) + PIECES * len(piece))) + header
+    return b"".join(frames_of_files(1, 300, [[first] + [piece] * PIECES]))
 
 
-def first_thread(number):
+def first_thread(number: int) -> int | None:
     """The processor time of the first thread of a process, in ticks, or None where it has ended."""
     try:
         with open(f"/proc/{number}/task/{number}/stat") as stat:
@@ -38,12 +36,18 @@ def first_thread(number):
     return None if fields[0] in "ZX" else int(fields[11]) + int(fields[12])
 
 
-def rendered(workers):
+def rendered(workers: int) -> tuple[int, str]:
     """The time of the first thread, and a checksum of the pictures."""
     running = subprocess.Popen(["./lritstation", "shelf", "render", "--workers", str(workers)],
                                stdout=subprocess.PIPE, stderr=subprocess.PIPE)
-    digest = hashlib.sha256()
-    reader = threading.Thread(target=lambda: [digest.update(part) for part in iter(lambda: running.stdout.read(1 << 16), b"")])
+    assert running.stdout and running.stderr
+    digest, pictures = hashlib.sha256(), running.stdout
+
+    def drain() -> None:
+        while part := pictures.read(1 << 16):
+            digest.update(part)
+
+    reader = threading.Thread(target=drain)
     reader.start()
     last = 0
     while running.poll() is None:
@@ -54,7 +58,7 @@ def rendered(workers):
     return last, digest.hexdigest()
 
 
-def station(words, given=b""):
+def station(words: str, given: bytes = b"") -> None:
     subprocess.run(["./lritstation", "shelf"] + words.split(), input=given, capture_output=True, check=True)
 
 
@@ -65,5 +69,6 @@ for _ in range(IMAGES):
 alone, pictures = min(rendered(1) for _ in range(RUNS))
 shared, same = min(rendered(4) for _ in range(RUNS))
 good = pictures == same and shared < MOST * alone
-print(f"trials/strips.sh: the first thread took {alone} ticks alone and {shared} of four: {'passed' if good else 'FAILED'}")
+took = f"the first thread took {alone} ticks alone and {shared} of four"
+print(f"trials/strips.sh: {took}: {'passed' if good else 'FAILED'}")
 sys.exit(not good)

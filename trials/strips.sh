@@ -11,4 +11,4 @@ scratch_folder
 find_program
 cp "$LRITSTATION" "$scratch/lritstation"
 cd "$scratch" || exit 1
-PYTHONPATH=$top/reference python3 "$top/trials/strips.py"
+python3 "$top/trials/strips.py"
