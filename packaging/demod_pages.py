@@ -10,6 +10,8 @@ from collections.abc import Callable
 from pathlib import Path
 from typing import NamedTuple
 
+from roff import escaped, page, roff, term, terms
+
 STATUSES = {
     0: "the input has ended",
     2: "an option that can't be, which standard error names",
@@ -42,41 +44,15 @@ def options_of(help_text: str) -> list[Option]:
     return found
 
 
-def escaped(text: str) -> str:
-    text = text.replace("\\", "\\e").replace("-", "\\-")
-    return "\\&" + text if text[:1] in (".", "'") else text
-
-
-def in_line(text: str) -> str:
-    """Prose in which what stands in backticks or between stars is bold."""
-    parts = re.split(r"`([^`]*)`|\*\*([^*]*)\*\*", text)
-    return "".join(escaped(it) if place % 3 == 0 else f"\\fB{escaped(it)}\\fR" for place, it in enumerate(parts) if it)
-
-
 def radios(top: Path) -> list[str]:
     """The section of RECEIVING on radios: prose, the table's rows and the list."""
     section = text_of(top, "docs/RECEIVING.md").split("\n### From a radio, or from complex samples\n")[1]
-    written: list[str] = []
-    for block in section.split("\n**Several recordings**")[0].strip().split("\n\n"):
-        lines = block.split("\n")
-        if lines[0].startswith("|"):
-            for row in lines[2:]:
-                head, how = [cell.strip().replace("\\|", "|") for cell in re.split(r"(?<!\\)\|", row)[1:3]]
-                written += [".TP", f"\\fB{escaped(head)}\\fR", in_line(how)]
-        elif lines[0].startswith("    "):
-            written += [".PP", ".nf", *[escaped(line[4:]) for line in lines], ".fi"]
-        elif lines[0].startswith("- "):
-            for item in re.split(r"\n?(?:^|(?<=\n))- ", block)[1:]:
-                written += [".IP \\(bu 2", *[in_line(line.strip()) for line in item.split("\n")]]
-        else:
-            written += [".PP", *[in_line(line) for line in lines]]
-    return written
+    return roff(section.split("\n**Several recordings**")[0], terms)
 
 
 def man(top: Path, version: str, options: list[Option]) -> str:
     date = time.strftime("%Y-%m-%d", time.gmtime(int(os.environ["SOURCE_DATE_EPOCH"])))
-    written = [f'.TH LRITDEMOD 1 "{date}" "Gomtasil {version}" "User Commands"', ".SH NAME"]
-    written += ["lritdemod \\- demodulates the signal of a weather satellite", ".SH SYNOPSIS"]
+    written = [*page("lritdemod", date, version, "demodulates the signal of a weather satellite"), ".SH SYNOPSIS"]
     written += [".B lritdemod", "[OPTIONS] < SAMPLES > SYMBOLS", ".SH DESCRIPTION", *radios(top), ".SH OPTIONS"]
     for option in options:
         choices = f": {', '.join(option.choices)}" if option.choices else ""
@@ -84,7 +60,7 @@ def man(top: Path, version: str, options: list[Option]) -> str:
         written += [".TP", f"\\fB\\-\\-{escaped(option.name)}\\fR{value}", escaped(option.said + choices)]
     written.append(".SH EXIT STATUS")
     for status, said in STATUSES.items():
-        written += [".TP", f"\\fB{status}\\fR", escaped(said)]
+        written += term(str(status), said)
     return "\n".join([*written, ".SH SEE ALSO", "\\fBlritstation\\fR(1), \\fBgomtasil\\fR(1)"]) + "\n"
 
 

@@ -11,28 +11,31 @@ import subprocess
 import sys
 import textwrap
 import time
+from collections.abc import Callable
+from typing import NamedTuple
+
+from roff import bold, escaped, in_line, page, roff, rows_of, term
 
 MAINTAINER = "Gomtasil maintainers <maintainers@users.noreply.gomtasil.example>"
-MOST_NARROW = 24  # characters of a column whose cells have one line
 UNPROVED = "--unproved"  # (what a checkout alone can do)
 MANUAL = "The manual page lritstation(1) has every input, printed line and status."
 DOCUMENTS = """PREFIXshare/doc/gomtasil/README.md leads from symbols to a picture, and
 docs/OPERATING.md has a station that runs day and night."""
 
 
-def placed(text):
+def placed(text: str) -> str:
     """The text with the paths of what is installed in place of those of a checkout."""
     text = re.sub(r"(?<![\w/])examples/", f"{PREFIX}share/gomtasil/", text)
     text = re.sub(r"(?<![\w/])docs/", f"{PREFIX}share/doc/gomtasil/docs/", text)
     return text.replace("PREFIX", PREFIX)
 
 
-def text_of(name):
+def text_of(name: str) -> str:
     with open(os.path.join(TOP, name), encoding="utf-8") as file:
         return file.read()
 
 
-def help_text():
+def help_text() -> str:
     """The wrapper's help without what only a checkout has, and with what an installed one has."""
     wrapper = [os.path.join(TOP, "lritstation"), "--help"]
     said = subprocess.run(wrapper, capture_output=True, text=True, check=True).stdout
@@ -44,9 +47,9 @@ def help_text():
     return placed("\n".join(lines).replace("./lritstation", "lritstation"))
 
 
-def summaries():
+def summaries() -> dict[str, str]:
     """What the help says of each command, by name."""
-    found = {}
+    found: dict[str, str] = {}
     for line in help_text().split("\n"):
         parts = re.match(r"  ([a-z]+(?:, [a-z]+)*)(?: \S+)*?  +(\S.*)", line)
         if parts:
@@ -54,116 +57,49 @@ def summaries():
     return found
 
 
-def rows_of(lines):
-    """The cells of the table in these lines, without its second line."""
-    rows = [re.split(r"(?<!\\)\|", line)[1:-1] for line in lines]
-    return [[cell.strip().replace("\\|", "|") for cell in row] for place, row in enumerate(rows) if place != 1]
-
-
-def table_of(head):
+def table_of(head: str) -> str:
     """The table of FORMATS that begins with this head, of those about the commands."""
     part = text_of("docs/FORMATS.md").split("\n## Commands\n")[1].split("\n## ")[0]
     return next(block for block in part.split("\n\n") if block.startswith(f"| {head} |"))
 
 
-def command_table():
-    """The table of the commands."""
-    return table_of("command")
+class Command(NamedTuple):
+    """A command of FORMATS: its name, and its options with the values that each may have; none is a number."""
+
+    name: str
+    options: dict[str, list[str]]
 
 
-def commands():
-    """The commands of FORMATS: name, options with their values, the words, and what it does."""
-    values = {}
+def commands() -> list[Command]:
+    known: dict[str, list[str]] = {}
     found = []
-    for call, does in rows_of(command_table().split("\n"))[1:]:
+    for call, _ in rows_of(table_of("command").split("\n"))[1:]:
         for words in re.findall(r"`([^`]+)`", call):
-            name = words.split()[0]
-            options = re.findall(r"\[(--[\w-]+) ([^\]]+)\]", words)
-            for option, value in options:
-                if "|" in value:
-                    values[name, option] = values[option] = value.split("|")
-            found.append((name, [option for option, _ in options], words, does))
-    # (`[--line ..]` takes what an earlier row says)
-    choices = {}
-    for name, options, _, _ in found:
-        for option in options:
-            choices[name, option] = values.get((name, option), values.get(option, []))
-    return found, choices
+            options = dict(re.findall(r"\[(--[\w-]+) ([^\]]+)\]", words))
+            # (`[--line ..]` takes what an earlier row says)
+            known.update((option, value.split("|")) for option, value in options.items() if "|" in value)
+            found.append(Command(words.split()[0], {option: known.get(option, []) for option in options}))
+    return found
 
 
-def escaped(text):
-    text = text.replace("\\", "\\e").replace("-", "\\-")
-    return "\\&" + text if text[:1] in (".", "'") else text
-
-
-def in_line(text):
-    """A line of prose or a cell: what stands in backticks or between stars is bold."""
-    parts = re.split(r"`([^`]*)`|\*\*([^*]*)\*\*", text)
-    written = ""
-    for place, part in enumerate(parts):
-        if part:
-            written += escaped(part) if place % 3 == 0 else "\\fB" + escaped(part).replace("\\&", "") + "\\fR"
-    return "\\&" + written if written[:1] in (".", "'") else written
-
-
-def bold(cell):
-    return "\\fB" + re.sub(r"\\f[BR]", "", in_line(cell)) + "\\fR"
-
-
-def table(lines):
-    """A table, as tbl sets it: a column with a long cell of several words takes the lines that it needs."""
-    rows = rows_of(lines)
-    wide = [any(len(cell) > MOST_NARROW and " " in cell for cell in column) for column in zip(*rows)]
-    form = " ".join("lx" if it else "l" for it in wide)
-    written = [".TS", "tab(@);", " ".join("lB" for _ in wide), form + "."]
-    for row in rows:
-        cells = [f"T{{\n.ad l\n{in_line(cell)}\nT}}" if is_wide else in_line(cell) for cell, is_wide in zip(row, wide)]
-        written += "@".join(cells).split("\n")
-    return [*written, ".TE"]
-
-
-def roff(markdown):
-    """A page in Markdown as lines of roff: its headings, tables, examples, lists and prose."""
-    written = []
-    for block in re.split(r"\n\n+", markdown.strip()):
-        lines = block.split("\n")
-        if lines[0].startswith("#"):
-            level, title = lines[0].split(" ", 1)
-            written.append(f'.SH "{escaped(title.upper())}"' if level == "##" else f'.SS "{escaped(title)}"')
-        elif lines[0].startswith("|"):
-            written += table(lines)
-        elif lines[0].startswith("    "):
-            written += [".PP", ".in +4n", ".nf", *[escaped(line[4:]) for line in lines], ".fi", ".in"]
-        elif lines[0].startswith("- "):
-            for item in re.split(r"\n?(?:^|(?<=\n))- ", block)[1:]:
-                written += [".IP \\(bu 2", *[in_line(line.strip()) for line in item.split("\n")]]
-        else:
-            written += [".PP", *[in_line(line) for line in lines]]
-    return written
-
-
-def term(head, said):
-    return [".TP", bold(head), in_line(placed(said))]
-
-
-def options():
+def options() -> list[str]:
     """The options of the commands, from the help, and those that stand in place of words."""
     written = ['.SH "OPTIONS"', ".PP", "Each option stands once, in any place after the command."]
     for option, names, meaning in re.findall(r"(?m)^  (--\S+ \S+) +(.*)$(?:\n      (\S.*)$)?", help_text()):
-        written += term(option, f"of {names}" + (f": {meaning}" if meaning else ""))
+        written += term(option, placed(f"of {names}" + (f": {meaning}" if meaning else "")))
     written += [".PP", "These stand in place of all words:"]
     written += term("--help [COMMAND]", "prints the commands, or the form of one")
     return written + term("--version", "prints the version")
 
 
-def environment():
+def environment() -> list[str]:
     if os.environ.get("ARCHITECTURE") == "arm64":
         return ['.SH "ENVIRONMENT"', ".PP", "None is read."]
     said = "where it is x86-64-v2, the program for that is started, whatever the processor has beyond"
     return ['.SH "ENVIRONMENT"', *term("LRITSTATION_CPU", said)]
 
 
-def files():
+def files() -> list[str]:
     """What is installed, and the shelf."""
     programs = ["arm64"] if os.environ.get("ARCHITECTURE") == "arm64" else ["v2", "v3"]
     written = ['.SH "FILES"']
@@ -174,13 +110,12 @@ def files():
     return written + term(f"{PREFIX}share/doc/gomtasil/", "README.md, and the other documents in docs")
 
 
-def man():
+def man() -> str:
     paragraphs = help_text().split("\n\n")
     name = paragraphs[0].split(": ", 1)[1]
     date = time.strftime("%Y-%m-%d", time.gmtime(EPOCH))
     # (the first line has tbl set the tables)
-    written = ["'\\\" t", f'.TH LRITSTATION 1 "{date}" "Gomtasil {VERSION}" "User Commands"']
-    written += [".SH NAME", f"lritstation \\- {escaped(name)}", ".SH SYNOPSIS"]
+    written = ["'\\\" t", *page("lritstation", date, VERSION, escaped(name)), ".SH SYNOPSIS"]
     for line in paragraphs[1].split("\n"):
         written += [".PP" if line.startswith("usage") else ".br", bold(line.replace("usage:", "").strip())]
     written += [".SH DESCRIPTION", *roff(placed(text_of("README.md").split("\n\n")[1]))]
@@ -196,18 +131,18 @@ def man():
     return "\n".join(written) + "\n"
 
 
-def cases(form):
+def cases(form: str) -> str:
     """The lines of a shell's `case` over a command and the word before: the values of options, and then the options."""
-    found, choices = commands()
-    numbers = sorted({option for (_, option), words in choices.items() if not words})
-    keys = [(f'"{name} {option}"', words) for (name, option), words in choices.items() if words]
-    keys.append(("|".join(f'*" {option}"' for option in numbers), []))
-    keys += [(f'"{name} "*', options) for name, options, _, _ in found if options]
+    found = commands()
+    values = [(it.name, option, words) for it in found for option, words in it.options.items()]
+    keys = [(f'"{name} {option}"', words) for name, option, words in values if words]
+    keys.append(("|".join(sorted({f'*" {option}"' for _, option, words in values if not words})), []))
+    keys += [(f'"{it.name} "*', list(it.options)) for it in found if it.options]
     return "\n".join(form.format(key=key, words=" ".join(words)) for key, words in keys)
 
 
-def bash():
-    names = " ".join(name for name, _, _, _ in commands()[0])
+def bash() -> str:
+    names = " ".join(it.name for it in commands())
     return f"""# Completions of lritstation(1) for bash.
 _lritstation() {{
     local word=${{COMP_WORDS[COMP_CWORD]}} words=
@@ -230,9 +165,9 @@ complete -F _lritstation lritstation
 """
 
 
-def zsh():
+def zsh() -> str:
     said = summaries()
-    names = "\n".join(f"            '{name}:{said[name]}'" for name, _, _, _ in commands()[0])
+    names = "\n".join(f"            '{it.name}:{said[it.name]}'" for it in commands())
     return f"""#compdef lritstation
 # Completions of lritstation(1) for zsh.
 _lritstation() {{
@@ -258,8 +193,7 @@ _lritstation "$@"
 """
 
 
-def fish():
-    found, choices = commands()
+def fish() -> str:
     said = summaries()
     lines = [
         "# Completions of lritstation(1) for fish.",
@@ -274,16 +208,15 @@ def fish():
         "complete -c lritstation -n '__lritstation_at 1' -l version",
         "complete -c lritstation -n 'not __lritstation_at 1' -f",
     ]
-    for name, options, _, _ in found:
-        lines.append(f"complete -c lritstation -n '__lritstation_at 2' -a {name} -d '{said[name]}'")
-        for option in options:
-            words = " ".join(choices[name, option])
-            values = f" -a '{words}'" if words else ""
-            lines.append(f"complete -c lritstation -n '__lritstation_is {name}' -l {option[2:]} -x{values}")
+    for it in commands():
+        lines.append(f"complete -c lritstation -n '__lritstation_at 2' -a {it.name} -d '{said[it.name]}'")
+        for option, words in it.options.items():
+            values = f" -a '{' '.join(words)}'" if words else ""
+            lines.append(f"complete -c lritstation -n '__lritstation_is {it.name}' -l {option[2:]} -x{values}")
     return "\n".join(lines) + "\n"
 
 
-def changelog():
+def changelog() -> str:
     """CHANGELOG in Debian's form: an entry for each version, and one for what comes after the newest."""
     written = []
     for part in re.split(r"(?m)^## ", text_of("CHANGELOG.md"))[1:]:
@@ -298,9 +231,9 @@ def changelog():
     return "\n".join(written)
 
 
-PAGES = {
+PAGES: dict[str, Callable[[], str]] = {
     "help": lambda: help_text() + "\n",
-    "commands": lambda: placed(command_table() + "\n\n" + table_of("word")) + "\n",
+    "commands": lambda: placed(table_of("command") + "\n\n" + table_of("word")) + "\n",
     "man": man,
     "bash": bash,
     "zsh": zsh,

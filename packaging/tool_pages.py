@@ -3,28 +3,32 @@ Usage: tool_pages.py man|bash|zsh|fish TOP VERSION, with SOURCE_DATE_EPOCH."""
 
 import argparse
 import os
-import re
 import sys
 import time
+from collections.abc import Callable
+
+from roff import bold, escaped, example, in_line, page
+
+Parser = argparse.ArgumentParser
 
 
-def commands():
+def commands() -> tuple[Parser, list[tuple[str, Parser, str]]]:
     """The commands with their parsers and what each does."""
     top = cli.parser()
     (action,) = [it for it in top._actions if isinstance(it, argparse._SubParsersAction)]
-    helps = {it.dest: it.help for it in action._choices_actions}
+    helps = {it.dest: it.help or "" for it in action._choices_actions}
     return top, [(name, parser, helps[name]) for name, parser in action.choices.items()]
 
 
-def options_of(parser):
+def options_of(parser: Parser) -> list[argparse.Action]:
     return [it for it in parser._actions if it.option_strings and it.dest != "help"]
 
 
-def places_of(parser):
+def places_of(parser: Parser) -> list[argparse.Action]:
     return [it for it in parser._actions if not it.option_strings]
 
 
-def words_of(option):
+def words_of(option: argparse.Action) -> list[str] | None:
     """What may follow an option: words, nothing where it is a number or a text, or None where it takes no value."""
     if option.nargs == 0:
         return None
@@ -34,39 +38,18 @@ def words_of(option):
 # ---- the manual page
 
 
-def escaped(text):
-    text = text.replace("\\", "\\e").replace("-", "\\-")
-    return "\\&" + text if text[:1] in (".", "'") else text
-
-
-def bold(text):
-    return "\\fB" + escaped(text) + "\\fR"
-
-
-def prose(text):
+def prose(text: str | None) -> list[str]:
     """Paragraphs, and examples that stand two spaces in."""
-    written = []
-    for part in text.strip().split("\n\n"):
+    written: list[str] = []
+    for part in (text or "").strip().split("\n\n"):
         if part.startswith("example:"):
-            lines = part.split("\n")[1:]
-            written += [
-                ".PP",
-                "For example:",
-                ".PP",
-                ".in +4n",
-                ".nf",
-                *[escaped(line.strip()) for line in lines],
-                ".fi",
-                ".in",
-            ]
+            written += [".PP", "For example:", *example([line.strip() for line in part.split("\n")[1:]])]
         else:
-            # (words in backticks are bold)
-            pieces = re.split(r"`([^`]*)`", " ".join(part.split()))
-            written += [".PP", "".join(bold(it) if place % 2 else escaped(it) for place, it in enumerate(pieces))]
+            written += [".PP", in_line(" ".join(part.split()))]
     return written
 
 
-def head_of(option):
+def head_of(option: argparse.Action) -> str:
     """The option or word with what follows it."""
     if not option.option_strings:
         return bold(str(option.metavar))
@@ -76,11 +59,10 @@ def head_of(option):
     return bold(option.option_strings[-1]) + (f" {escaped(shown)}" if shown and option.nargs != 0 else "")
 
 
-def man():
+def man() -> str:
     top, found = commands()
     date = time.strftime("%Y-%m-%d", time.gmtime(EPOCH))
-    written = [f'.TH GOMTASIL 1 "{date}" "Gomtasil {VERSION}" "User Commands"', ".SH NAME"]
-    written += ["gomtasil \\- extract, view and monitor what lritstation received", ".SH SYNOPSIS"]
+    written = page("gomtasil", date, VERSION, "extract, view and monitor what lritstation received") + [".SH SYNOPSIS"]
     for place, (_, parser, _) in enumerate(found):
         usage = " ".join(parser.format_usage().split()[1:]).replace("[-h] ", "")
         written += [".PP" if place == 0 else ".br", escaped(usage)]
@@ -97,14 +79,14 @@ def man():
 # ---- completions
 
 
-def bash():
+def bash() -> str:
     _, found = commands()
     names = " ".join(name for name, _, _ in found)
     cases = []
     for name, parser, _ in found:
         for option in options_of(parser):
-            if words_of(option):
-                cases.append(f'    "{name} {option.option_strings[-1]}") words="{" ".join(words_of(option))}" ;;')
+            if words := words_of(option):
+                cases.append(f'    "{name} {option.option_strings[-1]}") words="{" ".join(words)}" ;;')
         cases.append(
             f'    "{name} "*) words="{" ".join(it.option_strings[-1] for it in options_of(parser))} --help" ;;'
         )
@@ -126,7 +108,7 @@ complete -F _gomtasil gomtasil
 """
 
 
-def zsh():
+def zsh() -> str:
     _, found = commands()
     lines = "\n".join(f"        '{name}:{help_}'" for name, _, help_ in found)
     cases = []
@@ -152,7 +134,7 @@ _gomtasil "$@"
 """
 
 
-def fish():
+def fish() -> str:
     _, found = commands()
     lines = ["# Completions of gomtasil(1) for fish.", "complete -c gomtasil -n __fish_use_subcommand -f"]
     for name, parser, help_ in found:
@@ -165,7 +147,7 @@ def fish():
     return "\n".join(lines) + "\n"
 
 
-PAGES = {"man": man, "bash": bash, "zsh": zsh, "fish": fish}
+PAGES: dict[str, Callable[[], str]] = {"man": man, "bash": bash, "zsh": zsh, "fish": fish}
 if len(sys.argv) != 4 or sys.argv[1] not in PAGES:
     sys.exit(__doc__)
 TOP, VERSION = sys.argv[2:]
