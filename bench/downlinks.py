@@ -1,30 +1,23 @@
 """What `downlinks.sh` runs: its head says what it does."""
 
 import os
-import subprocess
 import sys
-import time
 
 from downlink import ZONE, block, checked, frame, idle, packet, symbols_of
+from measuring import Took, new_shelf, timed
 
 RECORDINGS = (1, 2, 3, 4)
 
 
-def run(words: str, path: str) -> tuple[float, str]:
-    """The wall time of a command over this input, and its last line."""
-    begin = time.monotonic()
-    with open(path, 'rb') as source:
-        done = subprocess.run(['./lritstation', 'shelf'] + words.split(), stdin=source, capture_output=True, check=True)
-    return time.monotonic() - begin, done.stdout.decode().splitlines()[-1]
+def run(words: str, path: str) -> Took:
+    return timed(['./lritstation', 'shelf', *words.split()], path)
 
 
 def seconds(words: str, paths: list[str]) -> tuple[float, int]:
     """The time of these calls onto an empty shelf, and how many files stand there then."""
-    if os.path.exists('shelf'):
-        os.remove('shelf')
-    run('init 1000000000', os.devnull)
-    took = sum(run(words, path)[0] for path in paths)
-    return took, int(run('list', os.devnull)[1].split()[1])
+    new_shelf()
+    took = sum(run(words, path).real for path in paths)
+    return took, int(run('list', os.devnull).printed.splitlines()[-1].split()[1])
 
 
 JOBS = {

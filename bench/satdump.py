@@ -1,50 +1,42 @@
 """What `satdump.sh` runs: its head says what it does."""
 
-import os, resource, shutil, subprocess, sys
+import os
+import shutil
+import subprocess
+import sys
+from collections.abc import Callable
+from pathlib import Path
+
+from measuring import timed
 
 root, folder, runs, frames = sys.argv[1], sys.argv[2], int(sys.argv[3]), int(sys.argv[4])
 FRAME, CADU = 892, 1024
 
-with open('symbols', 'rb') as file:
-    symbols = bytearray(file.read())
+symbols = bytearray(Path('symbols').read_bytes())
 symbols[1::2] = symbols[1::2].translate(bytes((256 - value) % 256 for value in range(256)))
-with open('plain', 'wb') as file:
-    file.write(symbols)
-with open('frames', 'rb') as file:
-    sent = file.read()
+Path('plain').write_bytes(symbols)
+sent = Path('frames').read_bytes()
 
 
-def seconds(command, stdin=None):
-    """The processor time of a command and of what it starts, user and system."""
-    before = resource.getrusage(resource.RUSAGE_CHILDREN)
-    with open('told', 'wb') as told:
-        subprocess.run(command, stdin=stdin, stdout=told, stderr=subprocess.STDOUT, check=True)
-    after = resource.getrusage(resource.RUSAGE_CHILDREN)
-    return after.ru_utime - before.ru_utime + after.ru_stime - before.ru_stime
+def ours(program: str) -> tuple[float, int]:
+    took = timed([program, '-', 'decode', '--g2', 'plain'], 'plain')
+    return took.processor, sum(b' restored 0 0 0 0' in line for line in took.printed.splitlines())
 
 
-def ours(program):
-    with open('plain', 'rb') as plain:
-        took = seconds([program, '-', 'decode', '--g2', 'plain'], plain)
-    with open('told') as told:
-        restored = sum(' restored 0 0 0 0' in line for line in told)
-    return took, restored
-
-
-def theirs():
+def theirs() -> tuple[float, int]:
     shutil.rmtree('out', ignore_errors=True)
-    took = seconds(['chroot', root, 'sh', '-c',
-                    f'cd {folder} && satdump goes_lrit soft plain out --tle_override orbits'])
-    with open('out/goes_lrit.cadu', 'rb') as file:
-        cadus = file.read()
+    words = f'cd {folder} && satdump goes_lrit soft plain out --tle_override orbits'
+    took = timed(['chroot', root, 'sh', '-c', words], None, subprocess.STDOUT)
+    cadus = Path('out/goes_lrit.cadu').read_bytes()
     same = sum(cadus[CADU * i + 4 : CADU * i + 4 + FRAME] == sent[FRAME * i : FRAME * (i + 1)] for i in range(frames))
-    return took, same
+    return took.processor, same
 
 
-sides = [('decode', lambda: ours('./lritstation')), ('SatDump', theirs)]
+Side = tuple[str, Callable[[], tuple[float, int]]]
+sides: list[Side] = [('decode', lambda: ours('./lritstation')), ('SatDump', theirs)]
 if os.path.exists('lritstation-v3'):
     sides.insert(1, ('decode for x86-64-v3', lambda: ours('./lritstation-v3')))
-best = {}
+best: dict[str, tuple[float, int]] = {}
 right = True
 for _ in range(runs):
     for name, run in sides:

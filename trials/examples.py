@@ -15,17 +15,19 @@ import socket
 import subprocess
 import sys
 import time
+from collections.abc import Callable
 
-def big(count, number):
+
+def big(count: int, number: int) -> bytes:
     return number.to_bytes(count, "big")
 
 
-def cadu():
+def cadu() -> None:
     while frame := sys.stdin.buffer.read(892):
         sys.stdout.buffer.write(bytes([0x1A, 0xCF, 0xFC, 0x1D]) + frame + bytes(128))
 
 
-def listener(port):
+def listener(port: str) -> socket.socket:
     server = socket.socket()
     server.setsockopt(socket.SOL_SOCKET, socket.SO_REUSEADDR, 1)
     server.bind(("127.0.0.1", int(port)))
@@ -33,7 +35,7 @@ def listener(port):
     return server
 
 
-def publish(port, size):
+def publish(port: str, size: str) -> None:
     """The publisher of nanomsg's PUB and SUB over TCP: each side says what it is, and a message has its length in 8
     bytes before it."""
     client, _ = listener(port).accept()
@@ -44,11 +46,11 @@ def publish(port, size):
     client.close()
 
 
-def is_ready(folder):
+def is_ready(folder: str) -> bool:
     return any(os.scandir(folder))
 
 
-def send_signal(name, folder, *words):
+def send_signal(name: str, folder: str, *words: str) -> None:
     number = signal.Signals["SIG" + name]
     signal.signal(number, signal.SIG_DFL)  # (a shell lets what it starts beside itself ignore INT)
     started = subprocess.Popen(words, stdin=subprocess.DEVNULL, stdout=subprocess.DEVNULL)
@@ -68,7 +70,7 @@ def send_signal(name, folder, *words):
     print(128 - status if status < 0 else status)
 
 
-commands = {
+commands: dict[str, Callable[..., None]] = {
     "cadu": cadu,
     "publish": publish,
     "signal": send_signal,

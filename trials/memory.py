@@ -1,11 +1,17 @@
 """What `memory.sh` runs: its head says what it does."""
 
-import os, re, subprocess, sys
+import os
+import re
+import subprocess
+import sys
+from pathlib import Path
 
 NO_MEMORY = b"station: no memory\n"
 LOADED_AS = os.environ.get("LOADED_AS", "LD_PRELOAD")
+SHELF = Path("shelf")
 
-def run(words, stdin=b"", refuse=0):
+
+def run(words: str, stdin: bytes = b"", refuse: int = 0) -> tuple[int, bytes, bytes, bool]:
     """Status, output, error line, and whether a request was refused."""
     environment = dict(os.environ)
     if os.path.exists("refused"):
@@ -15,31 +21,27 @@ def run(words, stdin=b"", refuse=0):
     done = subprocess.run(["./lritstation", "shelf"] + words.split(), input=stdin, capture_output=True, env=environment)
     return done.returncode, done.stdout, done.stderr, os.path.exists("refused")
 
-def contents():
-    with open("shelf", "rb") as shelf:
-        return shelf.read()
 
-def put(bytes):
-    with open("shelf", "wb") as shelf:
-        shelf.write(bytes)
-
-def made(words):
+def made(words: str) -> bytes:
     return subprocess.run(["./lritstation", "-"] + words.split(), capture_output=True, check=True).stdout
+
 
 frames = made("make 1 10 3 --output frames")
 symbols = made("make 1 10 3")
-put(b"")
+SHELF.write_bytes(b"")
 assert run("init 100000")[0] == 0
-empty = contents()
+empty = SHELF.read_bytes()
 assert run("receive --input frames", frames)[0] == 0
-full = contents()
+full = SHELF.read_bytes()
 
-def files():
+
+def files() -> int:
     """How many files the shelf has, each of them sound."""
     status, text, _, _ = run("verify")
     lines = text.splitlines()
     assert status == 0 and all(line.endswith((b" ok", b" discarded")) for line in lines), (status, text)
     return len(lines)
+
 
 # For each command: its words, its input, and the shelf that it finds.
 JOBS = [
@@ -49,9 +51,8 @@ JOBS = [
     ("receive --workers 3", symbols, empty),
     ("trial 1 10 3", b"", b""),
     ("trial 1 10 3 --workers 3", b"", b""),
-    ("list", b"", full), ("verify", b"", full), ("assemble 0 8 100 1", b"", full), ("repack 7 16", b"", full),
-    ("render", b"", full), ("render --workers 3", b"", full),
-    ("transmit 0 8 16 --line nrz-m", b"", full),
+    *((words, b"", full) for words in ("list", "verify", "assemble 0 8 100 1", "repack 7 16", "render",
+                                       "render --workers 3", "transmit 0 8 16 --line nrz-m")),
     ("downlinks", bytes([1]) + len(symbols).to_bytes(8, "big") + symbols, empty),
     ("frames", frames, full), ("packets", frames, full), ("decode", symbols, full), ("decode --workers 3", symbols, full),
 ]
@@ -61,8 +62,9 @@ NAMES = re.findall(r"^  (\w+) N  ", os.environ["HELP"], re.MULTILINE)
 assert len(NAMES) >= 4, NAMES
 JOBS += [(name + " 7", b"", full) for name in NAMES]
 
-def is_sound(words, before, status, out, whole_out, whole_shelf):
-    now = contents()
+
+def is_sound(words: str, before: bytes, status: int, out: bytes, whole_out: bytes, whole_shelf: bytes) -> bool:
+    now = SHELF.read_bytes()
     if status != 9:
         return now == (whole_shelf if status != 1 else before)
     name = words.split()[0]
@@ -78,16 +80,17 @@ def is_sound(words, before, status, out, whole_out, whole_shelf):
         return now in (before, whole_shelf)
     return now == before
 
+
 failed = runs = 0
 for words, stdin, before in JOBS:
-    put(before)
+    SHELF.write_bytes(before)
     usual = run(words, stdin)
-    whole_shelf = contents()
-    counts = {}
+    whole_shelf = SHELF.read_bytes()
+    counts: dict[int, int] = {}
     number = 0
     while True:
         number += 1
-        put(before)
+        SHELF.write_bytes(before)
         status, out, error, refused = run(words, stdin, refuse=number)
         if not refused:
             break

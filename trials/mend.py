@@ -104,7 +104,7 @@ def coded_image(station: Station, image: Image) -> Image:
     """The same image, each line coded by itself."""
     station.received(b"".join(sample.Sender().frames(CHANNEL, APPLICATION, image.bodies)), 0)
     station.run("repack", "0", "16")
-    with shelves.Shelf(station.shelf) as shelf:
+    with shelves.Shelf(str(station.shelf)) as shelf:
         stored = shelf.load(list(shelf.heads())[1])
     if stored is None:
         sys.exit("trials/mend.sh: no coded image")
@@ -210,7 +210,7 @@ def beside(station: Station, satdump: SatDump, image: Image, rate: float, draws:
             ours.append(lines_in_place(image, station.pixels()))
         size = (image.columns, image.lines)
         shown = [lines_in_place(image, pixels) for there, pixels in satdump.pictures(frames) if there == size]
-        theirs += [max(shown)] if shown and max(shown) else []
+        theirs += [most] if (most := max(shown, default=0)) else []
     counts = [f"{len(lines)}, {sum(lines) / max(1, len(lines)) / image.lines:.1%}" for lines in (ours, theirs)]
     return [f"{rate * 100:g} %", str(draws), *counts]
 

@@ -20,7 +20,7 @@ FRAME_BYTES, FRAME_SYMBOLS, CADU_BYTES, MARKER_BYTES = 892, 16_384, 1_024, 4
 CLEAN = 64  # the value of a symbol without noise
 DRAWN = 1 << 16  # values of a drawn number, each of which stands for one of the noise
 IMAGE_STEPS = (-1.5, -1.3)
-OPTIONS = ([], ["--passes", "4"], ["--mend", "64"], ["--passes", "4", "--mend", "64"])
+OPTIONS: tuple[list[str], ...] = ([], ["--passes", "4"], ["--mend", "64"], ["--passes", "4", "--mend", "64"])
 CODE = ["--line", "nrz-m", "--g2", "plain"]
 NEGATED = bytes(-value & 0xFF for value in range(256))
 ORBITS = """TEST
@@ -128,7 +128,7 @@ def table_of_images(program: str, folder: pathlib.Path, draws: int) -> None:
 
 
 def main() -> None:
-    parser = argparse.ArgumentParser(description=__doc__.splitlines()[0])
+    parser = argparse.ArgumentParser(description=(__doc__ or "").splitlines()[0])
     parser.add_argument("folder", type=pathlib.Path, nargs="?", help="for what is written")
     parser.add_argument("--noise", type=float, metavar="DB", help="put standard input with noise of this Es/N0, and end")
     parser.add_argument("--frames", type=int, default=3_000)

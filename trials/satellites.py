@@ -10,11 +10,18 @@ import os
 import struct
 import sys
 import warnings
+from collections.abc import Iterator
+from typing import Any
 
 import numpy
+from numpy.typing import NDArray
 
 warnings.filterwarnings("ignore")
 from gomtasil import sample, segments, xrit
+
+Pixels = NDArray[numpy.uint16]
+Array = NDArray[Any]
+Sent = tuple[int, int, bytes]  # channel, application, mission file
 
 SINCE = datetime.datetime(1958, 1, 1)
 MODIFIED_JULIAN = datetime.datetime(1858, 11, 17)
@@ -34,21 +41,22 @@ GOES_LONGITUDE = -75.2
 # ---- drawing
 
 
-def pixels_of(columns, lines, first_line, most):
+def pixels_of(columns: int, lines: int, first_line: int, most: int) -> Pixels:
     """Waves and noise, from 0 to most."""
     noise = numpy.random.default_rng(first_line).integers(0, 8, (lines, columns))
     y, x = numpy.arange(first_line, first_line + lines)[:, None], numpy.arange(columns)[None, :]
     waves = (numpy.sin(x / 40.0) + numpy.cos(y / 30.0) + 2) / 4
-    return numpy.minimum(waves * (most - 8) + noise, most).astype(numpy.uint16)
+    pixels: Pixels = numpy.minimum(waves * (most - 8) + noise, most).astype(numpy.uint16)
+    return pixels
 
 
-def packed(pixels, bits):
+def packed(pixels: Pixels, bits: int) -> bytes:
     """The pixels, in this many bits each."""
     words = pixels.astype(">u2").reshape(-1, 1).view(numpy.uint8)
     return numpy.packbits(numpy.unpackbits(words, axis=1)[:, 16 - bits :].reshape(-1)).tobytes()
 
 
-def himawari(folder):
+def himawari(folder: str) -> Iterator[Sent]:
     """Ten segments of band 14, 16 bits, with the records of JMA: segment, times of lines."""
     for number in range(1, HIMAWARI_SEGMENTS + 1):
         first = (number - 1) * HIMAWARI_LINES
@@ -73,13 +81,13 @@ def himawari(folder):
         yield 1, 110, xrit.mission_file(0, b"".join(records), packed(pixels, 16))
 
 
-def himawari_time(line):
+def himawari_time(line: int) -> float:
     """The modified Julian day of a line of the whole image: ten minutes for all lines."""
     since = HIMAWARI_WHEN - MODIFIED_JULIAN
     return since.total_seconds() / 86400 + line * 600 / 86400 / (HIMAWARI_LINES * HIMAWARI_SEGMENTS)
 
 
-def elektro(folder):
+def elektro(folder: str) -> Iterator[Sent]:
     """A prologue, six segments of channel 6, 10 bits, with a quality record, and an epilogue."""
     from satpy.readers import electrol_hrit
 
@@ -96,12 +104,12 @@ def elektro(folder):
     yield 2, 210, elektro_part(129, "EPI______", epilogue)
 
 
-def elektro_part(file_type, part, contents):
+def elektro_part(file_type: int, part: str, contents: Array) -> bytes:
     records = [sample.annotation(ELEKTRO_NAME.format("_________", part)), sample.stamp(ELEKTRO_WHEN)]
     return xrit.mission_file(file_type, b"".join(records), contents.tobytes())
 
 
-def elektro_segment(folder, number):
+def elektro_segment(folder: str, number: int) -> bytes:
     first = (number - 1) * ELEKTRO_LINES
     pixels = pixels_of(ELEKTRO_COLUMNS, ELEKTRO_LINES, first, 1023)
     since = ELEKTRO_WHEN - SINCE
@@ -123,7 +131,7 @@ def elektro_segment(folder, number):
     return xrit.mission_file(0, b"".join(records), packed(pixels, 10), 10 * pixels.size)
 
 
-def goes(folder):
+def goes(folder: str) -> Iterator[Sent]:
     """Four segments of channel 13, 8 bits, with the records of NOAA."""
     for number in range(GOES_SEGMENTS):
         first = number * GOES_LINES
@@ -145,11 +153,11 @@ def goes(folder):
         yield 13, 313, xrit.mission_file(0, b"".join(records), packed(pixels, 8))
 
 
-def keep(folder, name, pixels):
+def keep(folder: str, name: str, pixels: Pixels) -> None:
     numpy.save(os.path.join(folder, name + ".npy"), pixels)
 
 
-def draw(folder):
+def draw(folder: str) -> None:
     sender = sample.Sender()
     files = itertools.chain.from_iterable(make(folder) for make in (himawari, elektro, goes))
     for number, (channel, application, file) in enumerate(files):
@@ -162,7 +170,7 @@ def draw(folder):
 failed = False
 
 
-def same(what, got, wanted):
+def same(what: str, got: Any, wanted: Any) -> None:
     """Says whether two values are the same, and remembers where they aren't."""
     global failed
     is_same = bool(numpy.all(got == wanted)) and numpy.shape(got) == numpy.shape(wanted)
@@ -170,12 +178,12 @@ def same(what, got, wanted):
     print(f"{what}: {'the same' if is_same else f'{got}, not {wanted}'}")
 
 
-def kept(folder, shape):
+def kept(folder: str, shape: str) -> Array:
     """The pixels that were drawn, of all segments from north to south."""
     return numpy.vstack([numpy.load(it) for it in sorted(glob.glob(os.path.join(folder, shape)))])
 
 
-def compare_himawari(folder, files):
+def compare_himawari(folder: str, files: str) -> None:
     from satpy import Scene
 
     names = sorted(glob.glob(os.path.join(files, "IMG_DK01B14*")))
@@ -185,7 +193,7 @@ def compare_himawari(folder, files):
     seen = ~numpy.isnan(band.values)
     same(f"Himawari, {seen.sum()} pixels that see the earth of {seen.size}", band.values[seen], wanted[seen])
     handlers = scene._readers["ahi_hrit"].file_handlers["hrit_b14_seg"]
-    handlers = sorted(handlers, key=lambda it: it.mda["image_segm_seq_no"])
+    handlers = sorted(handlers, key=lambda it: int(it.mda["image_segm_seq_no"]))
     raw = numpy.vstack([it.read_band(None, None).compute() for it in handlers])
     same(f"Himawari, all {raw.size} pixels of the files", raw, wanted)
     same("Himawari, platform", band.attrs["platform_name"], "Himawari-8")
@@ -198,7 +206,7 @@ def compare_himawari(folder, files):
     same("Himawari, longitude", band.attrs["orbital_parameters"]["projection_longitude"], 140.7)
 
 
-def compare_elektro(folder, files):
+def compare_elektro(folder: str, files: str) -> None:
     from satpy import Scene
 
     scene = Scene(filenames=sorted(glob.glob(os.path.join(files, "L-000-GOMS2*"))), reader="electrol_hrit")
@@ -213,13 +221,13 @@ def compare_elektro(folder, files):
     same("ELEKTRO, stamps", {stamp_of(it) for part in handlers for it in part}, {ELEKTRO_WHEN})
 
 
-def stamp_of(handler):
+def stamp_of(handler: Any) -> datetime.datetime:
     """The time stamp of a file as satpy's base reader gives it."""
     stamp = handler.mda["timestamp"]
     return SINCE + datetime.timedelta(days=int(stamp["Days"]), milliseconds=int(stamp["Milliseconds"]))
 
 
-def compare_goes(folder, files):
+def compare_goes(folder: str, files: str) -> None:
     """By the reader on which all of satpy's readers of such files stand, with NOAA's records told to it."""
     from satpy.readers import hrit_base
 
@@ -229,7 +237,7 @@ def compare_goes(folder, files):
     names = sorted(glob.glob(os.path.join(files, "OR_ABI*")))
     rows, fields = [], []
     for name in names:
-        maps = (kinds, {}, hrit_base.base_text_headers)
+        maps: tuple[Any, ...] = (kinds, {}, hrit_base.base_text_headers)
         handler = hrit_base.HRITFileHandler(name, {"start_time": GOES_WHEN}, {"file_type": "goes"}, maps)
         rows.append(handler.read_band(None, None).compute())
         mda = handler.mda
@@ -245,7 +253,7 @@ def compare_goes(folder, files):
     same("GOES, stamps, agency, segments and names", fields == wanted, True)
 
 
-def placed(files, tiff):
+def placed(files: str, tiff: str) -> None:
     """Whether a GeoTIFF of Himawari's first segment lies where satpy places the image: its left edge, and its
     pixels' size."""
     from satpy import Scene
@@ -260,7 +268,7 @@ def placed(files, tiff):
     same("geo, the upper edge within a pixel", abs(tie[4] - top) <= scale[1] * 1.001, True)
 
 
-def readers(files, tiff):
+def readers(files: str, tiff: str) -> None:
     """Which files satpy finds by their names, and that it reads an image of GOES from its GeoTIFF."""
     from satpy import Scene, find_files_and_readers
 
@@ -283,15 +291,17 @@ def readers(files, tiff):
     same("GOES by its GeoTIFF, the middle lies below the satellite", near, True)
 
 
-def tags_of(path, wanted):
+def tags_of(path: str, wanted: int) -> tuple[float, ...]:
     """The numbers of a tag of a TIFF."""
-    from PIL import Image
+    from PIL import Image, TiffImagePlugin
 
     with Image.open(path) as it:
-        return it.tag_v2[wanted]
+        assert isinstance(it, TiffImagePlugin.TiffImageFile)
+        numbers: tuple[float, ...] = it.tag_v2[wanted]
+        return numbers
 
 
-def main():
+def main() -> None:
     if sys.argv[1] == "draw":
         draw(sys.argv[2])
     elif sys.argv[1] == "placed":

@@ -1,27 +1,37 @@
 """What `syncs.sh` runs: its head says what it does."""
 
-import os, re, subprocess, sys
+import os
+import re
+import subprocess
+import sys
+from collections.abc import Sequence
+from typing import NamedTuple, NoReturn
 
 os.chdir(sys.argv[1])
 program = os.path.abspath("lritstation")
 TRACED = "openat,read,write,pread64,pwrite64,fdatasync,fsync,sync_file_range,ftruncate,lseek"
 CALL = re.compile(r"(?:\d+ +)?(\w+)\((.*)\) += (-?\d+)")
+Refused = tuple[str, int] | None
+RECEIVE = ("receive", "--input", "frames")
 STATUSES = {"input": 3, "shelf": 4, "output": 5}
 
 
-def fail(text):
+def fail(text: str) -> NoReturn:
     print("trials/syncs.sh: " + text)
     sys.exit(1)
 
 
-# A call of the system: its name, its number among those of that name, its arguments, its answer, and what it is made
-# on.
-class Call:
-    def __init__(self, name, number, words, answer, places):
-        self.name, self.number, self.words, self.answer = name, number, words, answer
-        self.place = places.get(words.split(", ")[0])
+class Call(NamedTuple):
+    """A call of the system: its name, its number among those of that name, its arguments, its answer, and what it is
+    made on."""
 
-    def letter(self):
+    name: str
+    number: int
+    words: str
+    answer: int
+    place: str
+
+    def letter(self) -> str:
         if self.place == "shelf" and self.name == "pwrite64":
             return "g" if ', "\\1", 1, ' in self.words else "w"
         if self.place == "shelf" and self.name in ("fdatasync", "fsync"):
@@ -29,38 +39,40 @@ class Call:
         return "l" if self.place == "output" and '"shelved ' in self.words else ""
 
 
-# the calls of a run, its status and what it printed; the call of this name and number is refused
-def run(words, refused=None):
+def run(words: Sequence[str], refused: Refused = None) -> tuple[list[Call], int, str]:
+    """The calls of a run, its status and what it printed; the call of this name and number is refused."""
     inject = ["-e", "inject=%s:error=EIO:when=%d" % refused] if refused else []
     with open("stream", "rb") as source:
         command = ["strace", "-f", "-s", "32", "-o", "log", "-e", "trace=" + TRACED, *inject, program, *words]
         ended = subprocess.run(command, stdin=source, capture_output=True)
-    calls, numbers, places = [], {}, {"0": "input", "1": "output"}
+    calls: list[Call] = []
+    numbers: dict[str, int] = {}
+    places = {"0": "input", "1": "output"}
     with open("log", encoding="latin-1") as lines:
         for name, given, answer in (found.groups() for found in map(CALL.match, lines) if found):
             numbers[name] = numbers.get(name, 0) + 1
-            calls.append(Call(name, numbers[name], given, int(answer), places))
+            calls.append(Call(name, numbers[name], given, int(answer), places.get(given.split(", ")[0], "")))
             if name == "openat" and '"shelf"' in given:
                 places[answer] = "shelf"
     return calls, ended.returncode, ended.stdout.decode()
 
 
-# as before each run: an empty shelf, or what a stopped `init` leaves
-def prepare(words):
+def prepare(words: Sequence[str]) -> None:
+    """As before each run: an empty shelf, or what a stopped `init` leaves."""
     with open("shelf", "wb") as file:
         file.write(bytes(20) if words[0] == "init" else b"")
     if words[0] != "init":
         subprocess.run([program, "shelf", "init", "1000000"], check=True, capture_output=True)
 
 
-def received(refused=None, words=("receive", "--input", "frames")):
+def received(refused: Refused = None, words: Sequence[str] = RECEIVE) -> tuple[list[Call], int, str]:
     prepare(words)
     return run(["shelf", *words], refused)
 
 
-# Each refused call of a run of these words is the last one on its place, and the line of no item came before its last
-# sync.
-def refuse_each(words):
+def refuse_each(words: Sequence[str]) -> int:
+    """Each refused call of a run of these words is the last one on its place, and the line of no item came before its
+    last sync."""
     calls = received(None, words)[0]
     tried = [call for call in calls if call.place]
     for call in tried:
@@ -91,5 +103,5 @@ if status != 0 or files == 0:
 if letters != "s" + "".join(re.findall("w+sgsl", letters)) or letters.count("l") != files:
     fail("of %d items: %s" % (files, letters))
 print("trials/syncs.sh: %d items, each synced before its gate was written, and again before its line" % files)
-tried = refuse_each(("receive", "--input", "frames")) + refuse_each(("init", "1000000"))
+tried = refuse_each(RECEIVE) + refuse_each(("init", "1000000"))
 print("trials/syncs.sh: %d refused calls, of which none was asked for again" % tried)
