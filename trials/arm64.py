@@ -8,26 +8,30 @@ import os
 import random
 import subprocess
 import sys
+from collections.abc import Callable
+
+Call = tuple[list[str], bytes]  # the words of a command, and its input
+Answer = tuple[int, bytes, bytes, bytes | None]  # status, output, error line, and what is on the shelf then
 
 LINES = ("nrz-l", "nrz-m")
 G2 = ("inverted", "plain")
 SECONDS = 300
 
 
-def run(program, words, given=b"", shelf="-"):
+def run(program: str, words: list[str], given: bytes = b"", shelf: str = "-") -> tuple[int, bytes, bytes]:
     """Status, output and error line."""
     done = subprocess.run([program, shelf, *words], input=given, capture_output=True, timeout=SECONDS)
     return done.returncode, done.stdout, done.stderr
 
 
-def made(words):
+def made(words: list[str]) -> bytes:
     """What the first program prints."""
     status, out, said = run(PROGRAMS[0], words)
     assert status == 0, (words, status, said)
     return out
 
 
-def shelf_bytes(path):
+def shelf_bytes(path: str) -> bytes | None:
     if not os.path.exists(path):
         return None
     with open(path, "rb") as file:
@@ -37,15 +41,15 @@ def shelf_bytes(path):
 class Draw(random.Random):
     """Streams, and what becomes of them on their way."""
 
-    def options(self):
+    def options(self) -> list[str]:
         return ["--line", self.choice(LINES), "--g2", self.choice(G2)]
 
-    def stream(self, form, most):
+    def stream(self, form: str, most: int) -> bytes:
         """Up to this many frames of the test stream."""
         wrong = self.choice((0, 0, 1, 8, 15, 16))
         return made(["make", str(self.randrange(1, 10**6)), str(self.randint(1, most)), str(wrong), "--output", form])
 
-    def sent(self, options, most):
+    def sent(self, options: list[str], most: int) -> bytes:
         """Files of the test stream, sent under these options."""
         shelf = os.path.join(FOLDER, "sent")
         if os.path.exists(shelf):
@@ -57,7 +61,7 @@ class Draw(random.Random):
         words = ["transmit", "0", str(max(count, 0)), str(self.choice((0, 3, 16))), *options]
         return run(PROGRAMS[0], words, shelf=shelf)[1]
 
-    def noise(self, symbols):
+    def noise(self, symbols: bytes) -> bytes:
         """Each symbol, one signed byte, with noise of a drawn strength, and clipped."""
         strength = self.choice((0, 8, 30, 60, 90))
         if not strength:
@@ -71,14 +75,14 @@ class Draw(random.Random):
         taken = (tables[(start + place * 37 + place // 64) & 63] for place in range(len(symbols)))
         return bytes(table[(byte + 128) & 255] for table, byte in zip(taken, symbols))
 
-    def wrong_bytes(self, data):
+    def wrong_bytes(self, data: bytes) -> bytes:
         """Some bytes as any others."""
-        data = bytearray(data)
+        changed = bytearray(data)
         for _ in range(self.choice((0, 1, 30, 1000)) if data else 0):
-            data[self.randrange(len(data))] = self.randrange(256)
-        return bytes(data)
+            changed[self.randrange(len(data))] = self.randrange(256)
+        return bytes(changed)
 
-    def cut(self, data):
+    def cut(self, data: bytes) -> bytes:
         """Pieces are missing, come twice, are silent, turned round, or are of noise."""
         for _ in range(self.choice((0, 0, 1, 2, 5))):
             start = self.randrange(len(data) + 1)
@@ -98,7 +102,7 @@ class Draw(random.Random):
             data = data[:start] + piece + data[end:]
         return data
 
-    def recording(self, most):
+    def recording(self, most: int) -> Call:
         """Words of a command that reads a stream, and the stream."""
         form = self.choice(("symbols", "symbols", "symbols", "blocks", "frames"))
         command = self.choice(("receive", "receive", "decode" if form != "frames" else "packets"))
@@ -119,19 +123,19 @@ class Draw(random.Random):
                 words += options
         return words, self.wrong_bytes(data)
 
-    def bundle(self, options, count):
+    def bundle(self, options: list[str], count: int) -> bytes:
         """This number of recordings as one input of `downlinks`."""
         many = [self.cut(self.sent(options, 6)) for _ in range(count)]
         return bytes([len(many)]) + b"".join(len(one).to_bytes(8, "big") + one for one in many)
 
-    def command(self, files):
+    def command(self, files: int) -> Call:
         """A command of a session on a shelf with about this many files, and its input."""
         number = str(self.choice((0, self.randrange(files + 2), self.randrange(files + 2), 10**6)))
         first = self.randrange(files + 2)
         span = [str(first), str(first + self.randrange(12))]
         frames = self.choice(("frames", "packets"))
         options = self.options()
-        kinds = [
+        kinds: list[tuple[int, Callable[[], Call]]] = [
             (12, lambda: (["receive", "--input", "frames"], self.wrong_bytes(self.stream("frames", 40)))),
             (4, lambda: self.recording(6)),
             (2, lambda: (["downlinks", *options], self.bundle(options, 1))),
@@ -154,23 +158,23 @@ class Draw(random.Random):
         return self.choices([kind for _, kind in kinds], [weight for weight, _ in kinds])[0]()
 
 
-def same(what, answers):
+def same(what: str, answers: list[Answer]) -> bool:
     """Whether all programs answered the same; what differs is told."""
     if all(answer == answers[0] for answer in answers[1:]):
         return True
     print(f"{what} FAILED")
     for program, (status, out, said, shelf) in zip(PROGRAMS, answers):
-        shelved = shelf and len(shelf)
+        shelved = "-" if shelf is None else len(shelf)
         print(f"  {program}: status {status}, {len(out)} bytes {out[-60:]!r}, {said[-80:]!r}, shelf {shelved}")
     return False
 
 
-def everywhere(words, data, shelves):
+def everywhere(words: list[str], data: bytes, shelves: list[str]) -> list[Answer]:
     """What each program answers, with what is on its shelf then."""
     return [(*run(program, words, data, shelf), shelf_bytes(shelf)) for program, shelf in zip(PROGRAMS, shelves)]
 
 
-def new_shelves():
+def new_shelves() -> list[str]:
     shelves = [os.path.join(FOLDER, f"shelf-{place}") for place in range(len(PROGRAMS))]
     for shelf in shelves:
         if os.path.exists(shelf):
@@ -178,7 +182,7 @@ def new_shelves():
     return shelves
 
 
-def damage(draw, shelves):
+def damage(draw: Draw, shelves: list[str]) -> None:
     """Another byte in the same place of each shelf."""
     place, byte = draw.randrange(os.path.getsize(shelves[0])), draw.randrange(256)
     for shelf in shelves:
@@ -187,7 +191,7 @@ def damage(draw, shelves):
             file.write(bytes([byte]))
 
 
-def recordings(count):
+def recordings(count: int) -> int:
     """How many recordings differ, and what came of them."""
     failed, restored, files = 0, 0, 0
     for number in range(count):
@@ -206,7 +210,7 @@ def recordings(count):
     return failed
 
 
-def merged(program, options, data, shelf):
+def merged(program: str, options: list[str], data: bytes, shelf: str) -> Answer:
     """What `downlinks` leaves: status, last line, and the receipts and files, in whichever order they came."""
     status, out, said = run(program, ["downlinks", *options], data, shelf)
     lines = out.splitlines()
@@ -215,7 +219,7 @@ def merged(program, options, data, shelf):
     return status, b"\n".join([*receipts, *files, *lines[-1:]]), said, None
 
 
-def bundles(count):
+def bundles(count: int) -> int:
     """How many bundles of several recordings differ. In which order their threads come is no matter of the bytes."""
     failed, files = 0, 0
     for number in range(count):
@@ -231,8 +235,8 @@ def bundles(count):
     return failed
 
 
-def sessions(count):
-    failed, calls, statuses = 0, 0, set()
+def sessions(count: int) -> int:
+    failed, calls, statuses = 0, 0, set[int]()
     for number in range(count):
         draw = Draw(f"{SEED} session {number}")
         shelves = new_shelves()
@@ -251,7 +255,7 @@ def sessions(count):
     return failed
 
 
-def files_of(shelf):
+def files_of(shelf: str) -> int:
     """How many files the shelf has, by its list."""
     return max(0, len(run(PROGRAMS[0], ["list"], shelf=shelf)[1].splitlines()) - 1)
 

@@ -42,40 +42,40 @@ REFUSED = {
 
 
 class Retarget(unittest.TestCase):
-    def test_only_the_names_of_the_target_change(self):
+    def test_only_the_names_of_the_target_change(self) -> None:
         text = retargeted(HEAD + BODY + DECLARED + ATTRIBUTES, NAMES)
         self.assertIn('target triple = "wasm64-unknown-unknown"\n', text)
         self.assertIn("attributes #0 = { nounwind }\n", text)
         self.assertIn(BODY + DECLARED, text)
         self.assertNotIn("x86", text)
 
-    def test_vectors_and_switches(self):
+    def test_vectors_and_switches(self) -> None:
         text = "  %r1 = add <32 x i16> %r0, %r0\n  switch i8 %r1, label %a [\n    i8 0, label %b\n  ]\n  ret void\n"
         self.assertIn(text, retargeted(HEAD + BODY + text, NAMES))
 
-    def test_floats(self):
+    def test_floats(self) -> None:
         text = "  %r1 = fmul <8 x float> %r0, %r0\n  %r2 = fpext float %r3 to double\n  ret void\n"
         text += "}\ndeclare float @llvm.sqrt.f32(float) #1\n"
         self.assertIn(text, retargeted(HEAD + BODY + text, NAMES))
         with self.assertRaisesRegex(Unknown, "declares llvm.fma.f32"):
             retargeted(HEAD + BODY + text.replace("sqrt", "fma"), NAMES)
 
-    def test_what_only_keeps_an_order(self):
+    def test_what_only_keeps_an_order(self) -> None:
         text = '  call void asm sideeffect "", "~{memory}"()\n'
         self.assertIn(text, retargeted(HEAD + BODY + text, NAMES))
         with self.assertRaisesRegex(Unknown, "has 'asm'"):
             retargeted(HEAD + BODY + text.replace('""', '"nop"'), NAMES)
 
-    def test_names_and_texts_may_be_anything(self):
+    def test_names_and_texts_may_be_anything(self) -> None:
         text = '@"x86::asm<4 x i32>" = constant [3 x i8] c"asm"\n'
         self.assertIn(text, retargeted(HEAD + text, NAMES))
 
-    def test_what_is_not_known_is_refused(self):
+    def test_what_is_not_known_is_refused(self) -> None:
         for what, (line, word) in REFUSED.items():
             with self.subTest(what), self.assertRaisesRegex(Unknown, word):
                 retargeted(HEAD + BODY + line + "\n", NAMES)
 
-    def test_a_module_of_no_target_is_refused(self):
+    def test_a_module_of_no_target_is_refused(self) -> None:
         with self.assertRaisesRegex(Unknown, "no target"):
             retargeted(BODY, NAMES)
 

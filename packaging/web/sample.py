@@ -21,5 +21,6 @@ def files() -> Iterator[tuple[int, int, bytes]]:
 
 def sample_shelf() -> tuple[bytes, int]:
     """The bytes of the shelf, and how many files it has."""
-    items = [shelf.item_of(*whose, sample.bodies_of(number, it)) for number, (*whose, it) in enumerate(files())]
+    items = [shelf.item_of(channel, application, sample.bodies_of(number, it))
+             for number, (channel, application, it) in enumerate(files())]
     return shelf.shelf_of(items), len(items)

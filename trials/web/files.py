@@ -95,7 +95,8 @@ def forms() -> None:
     write("form.packed", int(bits[: len(bits) // 8 * 8], 2).to_bytes(len(bits) // 8, "big"))
     shorts = array.array("h", (it * 120 for it in rough))
     floats = array.array("f", (it / 40 for it in rough))
-    for name, values in (("s16", shorts), ("f32", floats)):
+    numbers: list[tuple[str, array.array[int] | array.array[float]]] = [("s16", shorts), ("f32", floats)]
+    for name, values in numbers:
         write(f"form.{name}le", values.tobytes())
         values.byteswap()
         write(f"form.{name}be", values.tobytes())
@@ -117,11 +118,13 @@ def others() -> None:
 
 
 def bomb() -> bytes:
-    return made.zip_of(("bomb", bytes(300_000_000)))
+    packed: bytes = made.zip_of(("bomb", bytes(300_000_000)))
+    return packed
 
 
 def many() -> bytes:
-    return made.zip_of(*((f"{it}", b"x") for it in range(5000)))
+    packed: bytes = made.zip_of(*((f"{it}", b"x") for it in range(5000)))
+    return packed
 
 
 def hostile() -> None:
