@@ -69,4 +69,15 @@ blessed() {
 # (a method of a trait that ends at no semicolon, and a law whose body `{}` is looked for further on)
 blessed Disk::length "cause only_read tell size contents crash time" 's/line.endswith(";")/line.endswith(";;")/'
 blessed one_nearest_path "there only" 's/line == indent + "{}"/line == indent + "{ }"/; s/line.endswith("{}")/line.endswith("{ }")/'
+
+# a commit whose message has no place
+if command -v git > /dev/null; then
+    (cd "$scratch" && git init -q && git add README.md &&
+        for message in "docs: the first one" "README.md, docs: a good one" "wip"; do
+            git -c user.name=trial -c user.email=trial@example.org commit -q --allow-empty -m "$message" || exit 1
+        done) || exit 1
+    MESSAGES_SINCE=HEAD~2 sh "$scratch/trials/documents.sh" > "$scratch/said" && fail "the message 'wip' wasn't found"
+    is "the number of bad messages" "$(grep -c ": commit .*isn't of the form" "$scratch/said")" 1
+    faults=$((faults + 1))
+fi
 echo "trials/documents-test.sh: $faults planted faults, each found"

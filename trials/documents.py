@@ -4,6 +4,7 @@ import glob
 import itertools
 import os
 import re
+import subprocess
 import sys
 from collections.abc import Iterator
 
@@ -223,6 +224,21 @@ def look_at_links(document: str) -> None:
             faults.append(f"{document}: {page} has no heading for the link to {target}")
 
 
+def look_at_messages() -> None:
+    """Each commit since the first one of this form says where it changes something, and then what and why. Outside of
+    a repository, and where it lacks that commit, nothing is looked at."""
+    since = os.environ.get("MESSAGES_SINCE", "114ce88f")
+    command = ["git", "log", "--no-merges", "--format=%h %s", f"{since}..HEAD"]
+    try:
+        done = subprocess.run(command, capture_output=True, text=True)
+    except OSError:
+        return
+    for line in done.stdout.splitlines() if done.returncode == 0 and os.path.exists(".git") else ():
+        commit, _, message = line.partition(" ")
+        if not re.fullmatch(r"[\w./*-]+(, [\w./*-]+)*: .{1,120}", message) or re.search(r"(?i)\bwip\b", message):
+            faults.append(f"commit {commit}: '{message}' isn't of the form 'crate or folder, ..: what and why'")
+
+
 for document in DOCUMENTS:
     look_at(document)
     look_at_links(document)
@@ -231,6 +247,7 @@ look_at_help()
 look_at_writers()
 look_at_version()
 look_at_columns()
+look_at_messages()
 look_at_layers()
 look_at_numbers()
 look_at_comments()
