@@ -24,7 +24,7 @@ const MOST_POINTS = 1024; // of a constellation
 class Look {
   /** @type {Signal | null} */
   signal = null;
-  last = 0;
+  last = -Infinity; // when
   samples = new Uint8Array(0); // the first ones of the block
   across = new Int8Array(0);
 
@@ -39,11 +39,11 @@ class Look {
   }
 
   /**
-   * Keeps samples that were read, where it is time to look at some.
+   * Keeps samples that were read. (Whether they are looked at is known only when their symbols come.)
    * @param {Uint8Array} bytes
    */
   keep(bytes) {
-    if (this.isDue() && bytes.length >= this.samples.length) this.samples = bytes.slice(0, this.bytes);
+    this.samples = bytes.slice(0, this.bytes);
   }
 
   /**
@@ -55,7 +55,6 @@ class Look {
     const count = Math.min(MOST_POINTS, symbols.length, this.across.length);
     const points = Int8Array.from({ length: 2 * count }, (_, at) => (at % 2 ? this.across : symbols)[at >> 1]);
     const spectrum = spectrumOf(samplesOf(this.samples, this.form, SPECTRUM_SAMPLES));
-    this.samples = new Uint8Array(0);
     return { points, spectrum, signal: this.signal };
   }
 }
@@ -81,7 +80,7 @@ export function demodulate(station, file, how, tell) {
   const source = new FileInput(whole, (bytes) => bytes, unit, (...far) => ([read, size] = far));
   const take = (/** @type {Uint8Array} */ into) => {
     const count = source.take(into);
-    look.keep(into.subarray(0, count));
+    if (count) look.keep(into.subarray(0, count));
     return count;
   };
   const put = (/** @type {number} */ output, /** @type {Uint8Array} */ bytes) => {
