@@ -1,7 +1,7 @@
 // What a Worker with `lr_radio` does: it makes soft symbols of a recording of complex samples, and tells what the
 // signal looks like as it goes.
 import { FileInput } from './devices.mjs';
-import { DOWNLINKS, SAMPLE_FORMS, samplesOf } from './iq.mjs';
+import { DOWNLINKS, SAMPLE_FORMS, complexNumbers } from './iq.mjs';
 import { modulated } from './modulate.mjs';
 import { SPECTRUM_SAMPLES, spectrumOf } from './spectrum.mjs';
 
@@ -54,7 +54,7 @@ class Look {
     this.last = performance.now();
     const count = Math.min(MOST_POINTS, symbols.length, this.across.length);
     const points = Int8Array.from({ length: 2 * count }, (_, at) => (at % 2 ? this.across : symbols)[at >> 1]);
-    const spectrum = spectrumOf(samplesOf(this.samples, this.form, SPECTRUM_SAMPLES));
+    const spectrum = spectrumOf(complexNumbers(this.samples, this.form, SPECTRUM_SAMPLES));
     return { points, spectrum, signal: this.signal };
   }
 }

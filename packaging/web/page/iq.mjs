@@ -149,7 +149,7 @@ export function iqOf(name, head, size) {
  * @param {number} count
  * @returns {{i: Float64Array, q: Float64Array}}
  */
-export function samplesOf(bytes, form, count) {
+export function complexNumbers(bytes, form, count) {
   const { bytes: size, read } = SAMPLE_FORMS[form];
   const view = viewOf(bytes);
   const whole = Math.min(count, Math.floor(bytes.length / size));

@@ -2,7 +2,7 @@
 // would give it. So the page has a recording of samples without a radio.
 import { DOWNLINKS } from './iq.mjs';
 
-export const DRAWN = { rate: 2_400_000, downlink: 'goes-hrit', form: 'u8' };
+export const DRAWN_SIGNAL = { rate: 2_400_000, downlink: 'goes-hrit', form: 'u8' };
 const [CARRIER, CARRIER_PERIOD] = [7000, 2400]; // Hz from the middle, and samples in which it turns whole times
 const DRAWN_RATIO = 10 ** (5 / 10); // Es/N0, of 5 dB
 const DRAWN_RMS = 30; // of all, in steps
@@ -64,11 +64,11 @@ function pulses(rollOff) {
 class Sender {
   /** @param {Int8Array} symbols */
   constructor(symbols) {
-    const { symbols: rate, rollOff } = DOWNLINKS[DRAWN.downlink];
+    const { symbols: rate, rollOff } = DOWNLINKS[DRAWN_SIGNAL.downlink];
     this.levels = new Float64Array(symbols.length + DRAWN_TAIL + 4 * PULSE_REACH); // with nothing before and after them
     symbols.forEach((it, at) => (this.levels[PULSE_REACH + at] = Math.sign(it)));
-    this.each = rate / DRAWN.rate;
-    const turn = (/** @type {number} */ at) => (2 * Math.PI * CARRIER * at) / DRAWN.rate;
+    this.each = rate / DRAWN_SIGNAL.rate;
+    const turn = (/** @type {number} */ at) => (2 * Math.PI * CARRIER * at) / DRAWN_SIGNAL.rate;
     this.cosines = Float64Array.from({ length: CARRIER_PERIOD }, (_, at) => Math.cos(turn(at)));
     this.sines = Float64Array.from({ length: CARRIER_PERIOD }, (_, at) => Math.sin(turn(at)));
     this.table = pulses(rollOff);

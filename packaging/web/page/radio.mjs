@@ -2,7 +2,7 @@
 // its symbols, which are received as any others.
 import { at, element } from './elements.mjs';
 import { DOWNLINKS, IQ_HEAD_BYTES, SAMPLE_FORMS, iqOf, likelyForm, rateInName } from './iq.mjs';
-import { DRAWN } from './modulate.mjs';
+import { DRAWN_SIGNAL } from './modulate.mjs';
 import { drawConstellation, drawSpectrum } from './scope.mjs';
 import { rich, text, used } from './words.mjs';
 
@@ -161,10 +161,10 @@ export class Radio {
   /** @param {Blob} samples */
   drawn(samples) {
     this.page.endWorkers();
-    const iq = { form: DRAWN.form, rate: DRAWN.rate, start: 0, end: samples.size };
-    at('radio-downlink').value = DRAWN.downlink;
+    const iq = { form: DRAWN_SIGNAL.form, rate: DRAWN_SIGNAL.rate, start: 0, end: samples.size };
+    at('radio-downlink').value = DRAWN_SIGNAL.downlink;
     this.show(samples, iq);
-    this.start(samples, { ...iq, downlink: DRAWN.downlink });
+    this.start(samples, { ...iq, downlink: DRAWN_SIGNAL.downlink });
   }
 
   /** @param {Seen} seen */

@@ -1,7 +1,7 @@
 // Recordings of complex samples: what a file says of itself, the spectrum, and the signal that the page draws.
 import assert from 'node:assert';
 import test from 'node:test';
-import { DOWNLINKS, iqOf, likelyForm, rateInName, samplesOf, waveOf } from '../page/iq.mjs';
+import { DOWNLINKS, iqOf, likelyForm, rateInName, complexNumbers, waveOf } from '../page/iq.mjs';
 import { modulated, pulse } from '../page/modulate.mjs';
 import { spectrumOf, transform } from '../page/spectrum.mjs';
 
@@ -73,7 +73,7 @@ test('what is taken for a recording of samples', () => {
 
 test('the numbers of samples', () => {
   const told = (list, form) => {
-    const { i, q } = samplesOf(list, form, 9);
+    const { i, q } = complexNumbers(list, form, 9);
     return [[...i], [...q]];
   };
   assert.deepEqual(told(Uint8Array.of(0, 255, 128), 'u8'), [[-127.5 / 128], [127.5 / 128]]);
@@ -104,7 +104,7 @@ test('a carrier stands in the spectrum where it is', () => {
   const i = Float64Array.from({ length: 2048 }, (_, at) => Math.cos(turn(at)));
   const spectrum = spectrumOf({ i, q: Float64Array.from(i, (_, at) => Math.sin(turn(at))) });
   assert.equal(spectrum.indexOf(Math.max(...spectrum)), spectrum.length / 2 + (3 / 16) * spectrum.length);
-  assert.equal(spectrumOf(samplesOf(new Uint8Array(10), 'u8', 5)).length, 0);
+  assert.equal(spectrumOf(complexNumbers(new Uint8Array(10), 'u8', 5)).length, 0);
 });
 
 test('the pulse has the energy 1, and none at the other symbols behind a filter of its form', () => {
@@ -125,7 +125,7 @@ test('the drawn signal is as wide as its symbols, and always the same', () => {
   const made = () => Uint8Array.from([...modulated(symbols)].flatMap((it) => [...it]));
   const bytes = made();
   assert.deepEqual(bytes, made());
-  const { i, q } = samplesOf(bytes, 'u8', 40_000);
+  const { i, q } = complexNumbers(bytes, 'u8', 40_000);
   const rms = Math.sqrt(i.reduce((sum, it, at) => sum + it * it + q[at] ** 2, 0) / (2 * i.length)) * 128;
   assert.ok(Math.abs(rms - 30) < 1, `rms ${rms}`);
   const spectrum = spectrumOf({ i, q });
