@@ -146,7 +146,7 @@ async function radio(browser) {
   await browser.click('#sample-radio'); // 1
   await browser.until('document.body.dataset.settled', 300);
   await says(browser, ALL);
-  await browser.click('#pictures button'); // 2: Save as PNG
+  await browser.click('#pictures figcaption button'); // 2: Save as PNG
   check(pixelsOf((await browser.saved(/\.png$/)).bytes).equals(earth()), "the saved picture is the program's");
   await browser.picture(path.join(shots, `${browser.name.toLowerCase()}-radio.png`));
   fs.copyFileSync(place('noise'), place('noise_2400000Hz.cu8'));
