@@ -31,7 +31,7 @@ measure() {
         ${root:+--satdump "$root"} "$@"
 }
 if [ -n "$plot" ]; then
-    measure curve --levels -1.8,-1.7,-1.6,-1.5,-1.4,-1.3,-1.2,-1,-0.5,0,0.5,1,2 --out "$scratch/curves.json"
+    measure levels --levels -1.8,-1.7,-1.6,-1.5,-1.4,-1.3,-1.2,-1,-0.5,0,0.5,1,2 --out "$scratch/curves.json"
     exec "$python" -m demod.plot "$scratch/curves.json" "$plot" "$(git -C "$top" log -1 --format=%h)"
 fi
 status=0

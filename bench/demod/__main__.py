@@ -149,21 +149,35 @@ def told(row: Row, best: Row) -> str:
     return f"| {row.es_n0:g} | {row.receiver} | {lost} | {slips} | {frames} | {spent} |"
 
 
-def side_by_side(bench: Bench, levels: list[float], form: str) -> bool:
-    """The receivers at each level; whether the demodulator takes no more processor time than it may beside SatDump."""
+def rows_of(bench: Bench, link: Link) -> list[Row]:
+    """What each receiver makes of one recording, after the ideal symbols."""
+    iq = bench.record(link)
+    rows = [bench.ideal_row(link)]
+    for name in receivers.names(bench.tools):
+        rows.append(bench.row(name, link, iq))
+        if name == "lritdemod":
+            again = bench.restored(bench.folder / "soft", PASSES)
+            rows.append(Row(link.es_n0, f"{name}, {' '.join(PASSES)}", None, again, rows[-1].of, 0.0))
+    return rows
+
+
+def side_by_side(bench: Bench, levels: list[float], form: str, out: Path | None) -> bool:
+    """The receivers at each level, with the shares of frames as JSON in `out`; whether the demodulator takes no more
+    processor time than it may beside SatDump."""
     print("| Es/N0, dB | receiver | dB lost | slips | frames restored | processor, s a second |")
     print("|---|---|---|---|---|---|")
     shares: list[float] = []
+    curves: dict[str, list[tuple[float, float]]] = {}
     for level in levels:
-        link = replace(STANDARD, es_n0=level, form=form)
-        iq = bench.record(link)
-        best = bench.ideal_row(link)
-        print(told(best, best), flush=True)
-        rows = {name: bench.row(name, link, iq) for name in receivers.names(bench.tools)}
-        for row in rows.values():
-            print(told(row, best), flush=True)
-        if "SatDump" in rows:
-            shares.append(rows["lritdemod"].processor / rows["SatDump"].processor)
+        rows = rows_of(bench, replace(STANDARD, es_n0=level, form=form))
+        for row in rows:
+            print(told(row, rows[0]), flush=True)
+            curves.setdefault(row.receiver, []).append((level, (row.restored or 0) / row.of))
+        spent = {row.receiver: row.processor for row in rows}
+        if "SatDump" in spent:
+            shares.append(spent["lritdemod"] / spent["SatDump"])
+    if out is not None:
+        out.write_text(json.dumps({"frames": len(bench.known), "curves": curves}))
     if shares:
         print(f"\nof SatDump's processor time: {median(shares):.2f} in the median, goal {MOST_SHARE}")
     return not shares or median(shares) <= MOST_SHARE
@@ -232,26 +246,9 @@ def through_fades(bench: Bench) -> None:
             print(f"| {level:g} | {name} | {row.restored} of {row.of} |", flush=True)
 
 
-def curve(bench: Bench, levels: list[float], path: Path) -> None:
-    """Frames restored over Es/N0 of each receiver, and of the demodulator with lost frames decoded again, as JSON."""
-    curves: dict[str, list[tuple[float, float]]] = {}
-    for level in levels:
-        link = replace(STANDARD, es_n0=level)
-        iq = bench.record(link)
-        rows = [bench.ideal_row(link), *(bench.row(name, link, iq) for name in receivers.names(bench.tools)[1:])]
-        rows.append(bench.row("lritdemod", link, iq))
-        again = bench.restored(bench.folder / "soft", PASSES)
-        rows.append(replace(rows[-1], receiver=f"lritdemod, {' '.join(PASSES)}", restored=again))
-        for row in rows:
-            share = (row.restored or 0) / row.of
-            curves.setdefault(row.receiver, []).append((level, share))
-            print(f"{level:g} {row.receiver} {share:.4f}", file=sys.stderr, flush=True)
-    path.write_text(json.dumps({"frames": len(bench.known), "curves": curves}))
-
-
 def words() -> argparse.ArgumentParser:
     parser = argparse.ArgumentParser(prog="demod", description=__doc__)
-    parser.add_argument("part", choices=["levels", "held", "cases", "lock", "fades", "curve"])
+    parser.add_argument("part", choices=["levels", "held", "cases", "lock", "fades"])
     parser.add_argument("--demodulator", type=Path, required=True, help="lritdemod")
     parser.add_argument("--station", type=Path, help="lritstation; without it no frames are counted")
     parser.add_argument("--satdump", type=Path, help="a folder with a Debian system that has SatDump")
@@ -259,7 +256,7 @@ def words() -> argparse.ArgumentParser:
     parser.add_argument("--levels", default="-1.8,-1.6,-1.5,-1.4,-1.3,-1,0,1,2,4,6", help="Es/N0 in dB")
     parser.add_argument("--form", choices=["u8", "s8", "s16", "f32"], default="f32")
     parser.add_argument("--own", action="store_true", help="no other receivers")
-    parser.add_argument("--out", type=Path, default=Path("curves.json"), help="the file of curve")
+    parser.add_argument("--out", type=Path, help="a file for the frames of `levels` as JSON, which plot.py draws")
     return parser
 
 
@@ -271,15 +268,13 @@ def main() -> int:
     with tempfile.TemporaryDirectory() as folder:
         bench = Bench(tools, Path(folder), given.frames)
         if given.part == "levels":
-            return 0 if side_by_side(bench, levels, given.form) else 1
+            return 0 if side_by_side(bench, levels, given.form, given.out) else 1
         if given.part == "held":
             return 0 if held(bench) else 1
         if given.part == "lock":
             taken_up(bench)
         elif given.part == "fades":
             through_fades(bench)
-        elif given.part == "curve":
-            curve(bench, levels, given.out)
         else:
             return 0 if cases(bench) else 1
     return 0

@@ -1,4 +1,4 @@
-"""Draws the frames that each receiver loses over Es/N0, from the JSON of `demod curve`.
+"""Draws the frames that each receiver loses over Es/N0, from the JSON of `demod levels --out`.
 
 Usage: plot.py CURVES FILE COMMIT
 """
