@@ -7,6 +7,7 @@ import { SPECTRUM_SAMPLES, spectrumOf } from './spectrum.mjs';
 
 const LOOK_MILLISECONDS = 150; // between two looks at the signal
 const MOST_POINTS = 1024; // of a constellation
+const KEPT_BYTES = 1 << 20; // of symbols that make a part
 
 /**
  * @typedef {import('./station.mjs').Station} Station
@@ -59,6 +60,28 @@ class Look {
   }
 }
 
+/** Symbols as a file of parts, which a browser keeps on a disk where they are many. */
+class Kept {
+  /** @type {Blob[]} */
+  parts = [];
+  /** @type {Uint8Array[]} */
+  pieces = [];
+  size = 0; // of the pieces
+
+  /** @param {Uint8Array} bytes */
+  add(bytes) {
+    this.pieces.push(bytes);
+    this.size += bytes.length;
+    if (this.size >= KEPT_BYTES) this.file();
+  }
+
+  file() {
+    this.parts.push(new Blob(/** @type {any} */ (this.pieces)));
+    Object.assign(this, { pieces: [], size: 0 });
+    return new Blob(this.parts);
+  }
+}
+
 /** @param {Uint8Array} bytes */
 const signed = (bytes) => new Int8Array(bytes.buffer, bytes.byteOffset, bytes.length);
 
@@ -73,8 +96,7 @@ export function demodulate(station, file, how, tell) {
   const { number, bytes: unit } = SAMPLE_FORMS[how.form];
   const { symbols, rollOff } = DOWNLINKS[how.downlink];
   const look = new Look(how.form);
-  /** @type {Blob[]} */
-  const parts = []; // (a browser keeps them on a disk where they are many)
+  const kept = new Kept();
   let [read, size] = [0, 0];
   const whole = file.slice(how.start, how.end);
   const source = new FileInput(whole, (bytes) => bytes, unit, (...far) => ([read, size] = far));
@@ -86,14 +108,14 @@ export function demodulate(station, file, how, tell) {
   const put = (/** @type {number} */ output, /** @type {Uint8Array} */ bytes) => {
     if (output === 2) look.across = signed(bytes);
     else {
-      if (bytes.length) parts.push(new Blob([/** @type {any} */ (bytes)]));
+      kept.add(bytes);
       if (look.isDue()) tell({ kind: 'seen', read, size, ...look.seen(signed(bytes)) });
     }
   };
   const told = (/** @type {Signal} */ signal) => (look.signal = signal);
   const status = station.radio({ rate: how.rate, symbols, rollOff, number }, { input: { take }, put, told });
   const fault = station.fault ? String(station.fault) : '';
-  tell({ kind: 'demodulated', status, fault, symbols: new Blob(parts) });
+  tell({ kind: 'demodulated', status, fault, symbols: kept.file() });
 }
 
 /**
