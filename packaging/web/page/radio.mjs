@@ -75,12 +75,13 @@ export class Radio {
   }
 
   /**
-   * Starts with a file if its head or its name says that it has samples, and answers whether it does.
+   * Starts with a file if its head or its name says that it has samples, and no setting says that it has symbols.
+   * Answers whether it does.
    * @param {Blob} file
    * @returns {Promise<boolean>}
    */
   async takes(file) {
-    if (!(file instanceof File)) return false;
+    if (!(file instanceof File) || at('form').value) return false;
     const head = new Uint8Array(await file.slice(0, IQ_HEAD_BYTES).arrayBuffer());
     const iq = iqOf(file.name, head, file.size);
     if (!iq) return false;
