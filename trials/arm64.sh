@@ -2,17 +2,17 @@
 # The program for arm64 as a board would use it, but under qemu: it agrees with the programs for x86-64-v2 and
 # x86-64-v3 on drawn recordings and sessions (arm64.py), its kernel works on eight halfwords at once (arm64_loops.py),
 # and its package is installed in an arm64 system of Debian 12 and in one of Debian 13, where README's session runs and
-# the trials of real paths, kills, readers, refused memory and scripts pass with it. The functions of
-# packaging/arm64/edge.c are tried on both processors first.
-# Usage: trials/arm64.sh [PART..], of edge first lanes drawn streams bookworm trixie main memory kill beside examples.
-# The last five, and streams, are the trials of these names with the C library of the cross packages. By default the
-# first seven parts run, or all where no system can be had. (A system is none for closed streams: there the kernel hands
-# the program's file to qemu, as standard input where that is closed.) Or trials/arm64.sh short: edge, first, and twenty
-# drawn recordings and sessions.
-# RECORDINGS, SESSIONS and SEED in the environment change what is drawn (500, 200 and 1), and SYSTEMS is as for
-# package.sh. Needs rt, python3, qemu, and the packages that packaging/arm64.sh names; a part may need more and says so
-# where that is missing. Where something was skipped, the last line names it, and the status is 77, which is no pass.
-# $LRITSTATION may name the built program; those with -v3 and -arm64 after its name stand beside it.
+# the trials of real paths, kills, readers, refused memory and scripts pass with it. The demodulator gives the symbols
+# of the one for x86-64. The functions of packaging/arm64/edge.c are tried on both processors first.
+# Usage: trials/arm64.sh [PART..], of edge first lanes drawn demod streams bookworm trixie main memory kill beside
+# examples. The last five, and streams, are the trials of these names with the C library of the cross packages. By
+# default the first eight parts run, or all where no system can be had. (A system is none for closed streams: there the
+# kernel hands the program's file to qemu, as standard input where that is closed.) Or trials/arm64.sh short: edge,
+# first, and twenty drawn recordings and sessions. RECORDINGS, SESSIONS and SEED in the environment change what is drawn
+# (500, 200 and 1), and SYSTEMS is as for package.sh. Needs rt, python3, qemu, and the packages that packaging/arm64.sh
+# names; a part may need more and says so where that is missing. Where something was skipped, the last line names it,
+# and the status is 77, which is no pass. $LRITSTATION and $LRITDEMOD may name the built programs; those with -v3 and
+# -arm64 after their names stand beside them.
 . "$(dirname "$0")/lib.sh"
 # shellcheck source-path=SCRIPTDIR source=../packaging/arm64/tools.sh
 . "$top/packaging/arm64/tools.sh"
@@ -36,6 +36,9 @@ find_programs() {
     [ -x "$usual-arm64" ] || fail "$usual-arm64 is missing: packaging/arm64.sh makes it"
     export LRITSTATION="$scratch/under-qemu"
     under_qemu "$usual-arm64" > "$LRITSTATION" && chmod +x "$LRITSTATION"
+    find_demodulator
+    [ -x "$LRITDEMOD-arm64" ] || "$top/packaging/arm64.sh" "$(dirname "$LRITDEMOD")" lritdemod > "$scratch/said" 2>&1 ||
+        fail "$(cat "$scratch/said")"
 }
 
 # under_qemu PROGRAM: a script that starts this program for arm64, with a library before the others where PRELOADED
@@ -106,6 +109,23 @@ drawn() {
 try_drawn() { drawn "${RECORDINGS:-500}" "${SESSIONS:-200}"; }
 try_few() { drawn 20 20; }
 
+# The symbols of samples in each form, and of their bytes from the second one on, which are no samples.
+try_demod() {
+    cd "$scratch" || return 1
+    under_qemu "$LRITDEMOD-arm64" > demod-qemu && chmod +x demod-qemu || return 1
+    "$usual" sent trial 1 7 0 > said && "$usual" sent transmit 0 6 0 > few || return 1
+    for form in u8 s8 s16 f32; do
+        python3 "$top/trials/demod.py" samples few "$form" > samples && tail -c +2 samples > shifted || return 1
+        for recording in samples shifted; do
+            set -- --rate 2500000 --symbols 1000000 --format "$form" --quiet
+            "$LRITDEMOD" "$@" < $recording > ours && ./demod-qemu "$@" < $recording > theirs || return 1
+            cmp ours theirs || return 1
+            [ -s ours ] || [ $recording = shifted ] || { echo "no symbol came of $form" && return 1; }
+        done
+    done
+    echo "the symbols are those of the program for x86-64"
+}
+
 try_main() { sh "$top/trials/main.sh"; }
 try_streams() { sh "$top/trials/streams.sh"; }
 # shellcheck disable=SC2086 # (they are several words)
@@ -149,7 +169,7 @@ scripts="days weeks full_shelves full_disk bundle ways_in station station_of_fra
 apart="main memory kill beside examples"
 find_programs
 ! has_systems || apart=
-parts=${*:-edge first lanes drawn streams bookworm trixie $apart}
+parts=${*:-edge first lanes drawn demod streams bookworm trixie $apart}
 [ "$parts" != short ] || parts="edge first few"
 passed=0 skipped=
 for part in $parts; do

@@ -30,6 +30,9 @@ export const GERMAN = {
   'recording.sample':
     'Keine Aufnahme zur Hand? Dann das Beispiel ausprobieren. Ein Programm hat es gezeichnet: eine Erde mit Wolken ' +
     'und zwei Wettermeldungen, gesendet wie vom Satelliten GOES, mit Fehlern, die korrigiert werden müssen.',
+  'recording.radio':
+    'Auch Aufnahmen des Funksignals selbst (IQ-Abtastwerte) funktionieren: WAV-Dateien oder Rohdateien, deren ' +
+    'Namen mit `.cu8`, `.cs16` oder `.cf32` enden oder die Abtastwerte pro Sekunde nennen, etwa `2400000Hz`.',
   'settings.title': 'Einstellungen',
   'settings.code': 'Wie die Bits gesendet werden (Leitungscode)',
   'settings.form': 'Dateiformat',

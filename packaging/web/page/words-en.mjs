@@ -26,6 +26,9 @@ export const ENGLISH = {
   'recording.sample':
     'No recording? Try the sample. A program drew it: an earth with clouds and two bulletins, sent as the satellite ' +
     'GOES sends them, with errors that have to be corrected.',
+  'recording.radio':
+    'Recordings of the radio itself (IQ samples) work too: WAV files, or raw files whose names end with `.cu8`, ' +
+    '`.cs16` or `.cf32` or state the samples per second, such as `2400000Hz`.',
   'settings.title': 'Settings',
   'settings.code': 'How the bits are sent (line code)',
   'settings.form': 'File format',

@@ -29,6 +29,9 @@ export const SPANISH = {
   'recording.sample':
     '¿No tienes ninguna? Prueba el ejemplo. Lo dibujó un programa: una Tierra con nubes y dos boletines, enviados ' +
     'como lo hace el satélite GOES, con errores que hay que corregir.',
+  'recording.radio':
+    'También sirven grabaciones de la propia radio (muestras IQ): archivos WAV, o archivos sin cabecera cuyos ' +
+    'nombres terminan en `.cu8`, `.cs16` o `.cf32` o indican las muestras por segundo, como `2400000Hz`.',
   'settings.title': 'Ajustes',
   'settings.code': 'Cómo se envían los bits (código de línea)',
   'settings.form': 'Formato del archivo',

@@ -30,6 +30,10 @@ export const FRENCH = {
   'recording.sample':
     "Pas d'enregistrement ? Essaie l'exemple. Un programme l'a dessiné : une Terre avec des nuages et deux " +
     'bulletins, envoyés comme le fait le satellite GOES, avec des erreurs à corriger.',
+  'recording.radio':
+    'Les enregistrements de la radio elle-même (échantillons IQ) conviennent aussi : des fichiers WAV, ou des ' +
+    'fichiers bruts dont le nom se termine par `.cu8`, `.cs16` ou `.cf32` ou indique les échantillons par ' +
+    'seconde, comme `2400000Hz`.',
   'settings.title': 'Réglages',
   'settings.code': 'Comment les bits sont envoyés (code en ligne)',
   'settings.form': 'Format du fichier',
