@@ -118,7 +118,8 @@ try_demod() {
         python3 "$top/trials/demod.py" samples few "$form" > samples && tail -c +2 samples > shifted || return 1
         for recording in samples shifted; do
             set -- --rate 2500000 --symbols 1000000 --format "$form" --quiet
-            "$LRITDEMOD" "$@" < $recording > ours && ./demod-qemu "$@" < $recording > theirs || return 1
+            # (it says that the last sample is torn)
+            { "$LRITDEMOD" "$@" < $recording > ours && ./demod-qemu "$@" < $recording > theirs; } 2> said || return 1
             cmp ours theirs || return 1
             [ -s ours ] || [ $recording = shifted ] || { echo "no symbol came of $form" && return 1; }
         done
