@@ -92,6 +92,6 @@ outside "$top/packaging/web/lr_live" && compile && for_web lr_live -O3 $heap $ho
 outside "$top/packaging/web/lr_radio" && compile && for_web lr_radio -O3 $heap lr_host_take lr_host_put lr_host_told ||
     exit 1
 made_of="$(version), commit $(git -C "$top" rev-parse --short=12 HEAD)"
-python3 "$top/packaging/web/bundle.py" "$scratch/modules" "$made_of" "$program.new" || exit 1
 [ -z "${MODULES-}" ] || cp "$scratch/modules/"*.wasm "$MODULES/" || exit 1
+python3 "$top/packaging/web/bundle.py" "$scratch/modules" "$made_of" "$program.new" || exit 1
 mv "$program.new" "$program" && echo "$program"

@@ -9,7 +9,7 @@ import path from 'node:path';
 const PATIENCE = Number(process.env.PATIENCE ?? 1); // times as long is waited
 const STEP_MILLISECONDS = 50;
 const MARIONETTE_TRIES = 400 * PATIENCE;
-const KEYS = { Tab: '\uE004', Enter: '\uE007' }; // of Firefox
+const KEYS = { Tab: '\uE004', Enter: '\uE007', Escape: '\uE00C' }; // of Firefox
 const LANGUAGES = 'intl.accept_languages'; // of Firefox
 const SCHEME = 'layout.css.prefers-color-scheme.content-override'; // of Firefox
 const [DARK, LIGHT] = [0, 1];
@@ -17,7 +17,24 @@ const [DARK, LIGHT] = [0, 1];
 /** @param {number} milliseconds */
 export const pause = (milliseconds) => new Promise((go) => setTimeout(go, milliseconds));
 
+/** @param {string} file of /proc, or nothing where the process has ended */
+function readOf(file) {
+  try {
+    return fs.readFileSync(file, 'utf8');
+  } catch {
+    return '';
+  }
+}
+
+/** @param {string} pid */
+const parentOf = (pid) => /^PPid:\s+(\d+)/m.exec(readOf(`/proc/${pid}/status`))?.[1];
+
+/** @param {string} pid */
+const shareOf = (pid) => 1024 * Number(/^Pss:\s+(\d+)/m.exec(readOf(`/proc/${pid}/smaps_rollup`))?.[1] ?? 0);
+
 class Browser {
+  warnings = []; // dialogs that were shown, and closed
+
   constructor() {
     this.profile = fs.mkdtempSync(path.join(os.tmpdir(), 'browser-'));
     this.downloads = path.join(this.profile, 'downloads');
@@ -54,6 +71,14 @@ class Browser {
     throw new Error(`nothing was saved as ${name}`);
   }
 
+  /** The memory of all its processes in bytes, those that they share counted once. */
+  memory() {
+    const pids = fs.readdirSync('/proc').filter((it) => /^\d+$/.test(it));
+    const parents = new Map(pids.map((pid) => [pid, parentOf(pid)]));
+    const isOwn = (pid) => pid !== undefined && (pid === String(this.process.pid) || isOwn(parents.get(pid)));
+    return pids.filter(isOwn).reduce((sum, pid) => sum + shareOf(pid), 0);
+  }
+
   async close() {
     this.process.kill();
     await new Promise((go) => (this.process.exitCode === null ? this.process.once('exit', go) : go(null)));
@@ -67,7 +92,6 @@ export class Chromium extends Browser {
   name = 'Chromium';
   requests = [];
   faults = [];
-  warnings = []; // dialogs that were shown, and closed
 
   static async start() {
     const it = new Chromium();
@@ -279,11 +303,11 @@ export class Firefox extends Browser {
   }
 
   async giveFile(selector, file) {
-    await this.send('WebDriver:ElementSendKeys', { id: await this.find(selector), text: file });
+    await this.send('WebDriver:ElementSendKeys', { id: await this.find(selector), text: [file].flat().join('\n') });
   }
 
   async key(key) {
-    const actions = ['keyDown', 'keyUp'].map((type) => ({ type, value: KEYS[key] }));
+    const actions = ['keyDown', 'keyUp'].map((type) => ({ type, value: KEYS[key] ?? key }));
     await this.send('WebDriver:PerformActions', { actions: [{ type: 'key', id: 'keyboard', actions }] });
   }
 

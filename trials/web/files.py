@@ -25,6 +25,7 @@ MARKER = bytes.fromhex("1ACFFC1D")
 PARITY_BYTES = 1024 - 4 - FRAME_BYTES
 FORM_BYTES = 2_500_000  # of the recording that is turned into other forms
 SEGMENTS = 65535
+PICTURES, COLUMNS, LINES = 40, 5424, 2712
 HOSTILE_NAME = b"<img src=x onerror=\"document.title='owned'\"><script>document.title='owned'</script>"
 
 
@@ -117,6 +118,31 @@ def others() -> None:
     write("other.wav", b"RIFF" + (400_036).to_bytes(4, "little") + b"WAVEfmt " + form + b"data" + bytes(4) + samples)
 
 
+def given() -> None:
+    """Files as other programs save them: alone, in a zip, and one whose lines are coded."""
+    files = [run("sent.shelf", "extract", str(it)) for it in range(6)]
+    for number, data in enumerate(files):
+        write(f"given{number}.lrit", data)
+    write("given.zip", made.zip_of(*((f"{it}.lrit", data) for it, data in enumerate(files)), ("about.txt", b"no file")))
+    run("coded.shelf", "init", str(ROOM))
+    run("coded.shelf", "receive", "--input", "frames", given=(folder / "frames").read_bytes())
+    run("coded.shelf", "repack", "1", "16")
+    write("coded.lrit", run("coded.shelf", "extract", "6"))
+
+
+def many_pictures() -> None:
+    """A shelf of 40 pictures of 5,424 columns, a quarter of an hour apart."""
+    structure = (8, COLUMNS, LINES)
+    with open(folder / "pictures.shelf", "wb") as shelf:
+        shelf.write(made.header())
+        for number in range(PICTURES):
+            row = bytes((column // 8 + 5 * number) % 256 for column in range(COLUMNS))
+            name = made.record(4, b"OR_ABI-C13_s2026333%02d%02d000.lrit" % divmod(15 * number, 60))
+            stamp = made.stamp(25169, 900_000 * number)
+            shelf.write(b"\1" + made.added(number, made.image(*structure, row * LINES, more=[name, stamp])))
+        shelf.write(b"\0")
+
+
 def bomb() -> bytes:
     packed: bytes = made.zip_of(("bomb", bytes(300_000_000)))
     return packed
@@ -177,5 +203,7 @@ if __name__ == "__main__":
     recordings()
     forms()
     others()
+    given()
+    many_pictures()
     hostile()
     jpeg_strips()

@@ -10,6 +10,8 @@ import { Chromium, Firefox, pause } from './browsers.mjs';
 const [page, folder, shots, program, ...names] = process.argv.slice(2);
 const LONG_TIMES = Number(process.env.TIMES ?? 100); // how often the recording stands in the long one
 const MOST_MEMORY = 16 << 20; // of the receiver's module
+const MOST_BROWSER_MEMORY = 1 << 30; // more than of the empty page, with many large pictures
+const LACKING = [140, 193, 328, 363, 389, 417]; // frames that are lost in the recording of files.py
 const CODE = ['--line', 'nrz-m', '--g2', 'plain'];
 const ALL = /^Done\. All 470 blocks of data \(frames\) were received, and they held 6 files\.$/;
 const FORMS = ['unsigned', 'bits', 'packed', 's16le', 's16be', 'f32le', 'f32be', 'frames', 'cadu'];
@@ -167,6 +169,178 @@ async function radio(browser) {
   return '';
 }
 
+/** What the picture at its full size shows at a place, from 0 to 1. */
+const shownAt = (browser, x, y) =>
+  browser.evaluate(`(() => {
+    const canvas = document.getElementById('view-canvas');
+    const { data } = canvas.getContext('2d').getImageData(${x} * canvas.width, ${y} * canvas.height, 1, 1);
+    return [...data].join(' ');
+  })()`);
+
+/** Sets a control, as somebody who moves it. */
+const set = (browser, id, value) =>
+  browser.evaluate(`(() => {
+    const it = document.getElementById('${id}');
+    if (it.type === 'checkbox') it.checked = ${value};
+    else it.value = '${value}';
+    it.dispatchEvent(new Event('input'));
+    it.dispatchEvent(new Event('change'));
+  })()`);
+
+/** Opens the first picture at its full size. */
+async function openPicture(browser) {
+  await browser.click('#pictures .thumb');
+  await browser.until("/zoom/.test(document.getElementById('view-pixel').textContent)");
+  await pause(300);
+}
+
+/** A picture at its full size: zoom, colours, lost lines, and saving as it is shown. */
+async function viewing(browser) {
+  await given(browser, place('lacking'));
+  await openPicture(browser);
+  const whole = await shownAt(browser, 0.5, 0.5);
+  check(/^(\d+) \1 \1 255$/.test(whole), `the middle is grey: ${whole}`);
+  await set(browser, 'view-colours', 'heat');
+  await pause(300);
+  const coloured = await shownAt(browser, 0.5, 0.5);
+  check(!/^(\d+) \1 \1 255$/.test(coloured), `the middle is in colour: ${coloured}`);
+  await browser.click('#view-reset');
+  await set(browser, 'view-light', '100');
+  await pause(300);
+  check(parseInt(await shownAt(browser, 0.5, 0.5)) > parseInt(whole), 'it is lighter');
+  await browser.click('#view-reset');
+  const edge = await shownAt(browser, 0.01, 0.5);
+  await browser.click('#view-larger');
+  await browser.click('#view-larger');
+  await browser.click('#view-larger');
+  await pause(300);
+  check((await shownAt(browser, 0.01, 0.5)) !== edge, 'a larger picture fills the screen');
+  await browser.evaluate("document.getElementById('view-canvas').focus()");
+  await browser.key('0', 48);
+  await pause(300);
+  check((await shownAt(browser, 0.01, 0.5)) === edge, 'the key 0 shows the whole picture');
+  const orange = `(() => {
+    const canvas = document.getElementById('view-canvas');
+    const { data } = canvas.getContext('2d').getImageData(0, 0, canvas.width, canvas.height);
+    return new Uint32Array(data.buffer).filter((it) => it === 0xff2a60ff).length;
+  })()`;
+  check((await browser.evaluate(orange)) === 0, 'nothing is hatched');
+  await set(browser, 'view-lost', true);
+  await pause(300);
+  check((await browser.evaluate(orange)) > 1000, 'lost lines are hatched');
+  await set(browser, 'view-titled', true);
+  await browser.click('#view-save');
+  const { name, bytes } = await browser.saved(/-titled\.png$/);
+  check(bytes.readUInt32BE(16) === 640 && bytes.readUInt32BE(20) > 650, `${name} has a title below it`);
+  await browser.key('Escape', 27);
+  check(!(await browser.evaluate("document.getElementById('viewer').open")), 'the key Escape closes it');
+}
+
+/** What happens to a frame, beside the lines of the program's `decode`. */
+async function layers(browser) {
+  await given(browser, place('lacking'));
+  await browser.until("document.getElementById('quality').dataset.isWhole === 'true'");
+  const decoded = spawnSync(program, ['-', 'decode', ...CODE, '--passes', '4'], { input: fs.readFileSync(place('lacking')) });
+  const lines = decoded.stdout.toString().split('\n');
+  await browser.evaluate("document.getElementById('layers-box').open = true");
+  const isShown = (number) =>
+    `document.getElementById('layers-number').value === '${number}' && document.querySelector('#layers h3') !== null`;
+  for (const number of [0, 137, 300]) {
+    await set(browser, 'layers-number', number);
+    await browser.until(isShown(number));
+    const words = / restored (.*)$/.exec(lines[number])[1].replaceAll(' ', ', ');
+    await says(browser, new RegExp(`Corrected in the four words: ${words} bytes\\.`), 'layers');
+  }
+  await set(browser, 'layers-number', 0);
+  await browser.until(isShown(0));
+  for (const number of LACKING) {
+    check(/ lost \d$/.test(lines[number]), `frame ${number} is lost`);
+    await browser.click('#layers-lost');
+    await browser.until(isShown(number));
+    await says(browser, /What was lost with it.*(Nothing: the frame was fill|Lines \d+ to \d+ of the picture .* are lost)/, 'layers');
+  }
+  await browser.click('#layers-next');
+  await browser.until("/Its lines in the picture/.test(document.getElementById('layers').textContent)");
+}
+
+/** LRIT files that other programs saved, alone and in zips. */
+async function files(browser) {
+  const names = [0, 1, 2, 3, 4, 5].map((it) => place(`given${it}.lrit`));
+  for (const chosen of [names, [place('given.zip')]]) {
+    await given(browser, chosen);
+    await says(browser, chosen.length > 1 ? /^6 LRIT files are open\.$/ : /^6 LRIT files are open\. One other file was left out\.$/);
+    await says(browser, /640 × 640/, 'pictures');
+    await says(browser, /SAMPLE BULLETIN/, 'texts');
+    check((await displayOf(browser, 'save-shelf')) === 'none', 'they have no shelf');
+    await browser.click('#pictures figcaption button');
+    check(pixelsOf((await browser.saved(/\.png$/)).bytes).equals(earth()), "the picture is the program's");
+    fs.rmSync(browser.downloads, { recursive: true });
+    fs.mkdirSync(browser.downloads);
+  }
+  await given(browser, place('coded.lrit'));
+  await says(browser, /This image can't be shown here\. It is coded, and the bounds of its packets are lost/, 'pictures');
+  await given(browser, place('other.zip'));
+  await says(browser, /^There is no LRIT or HRIT file in it\.$/);
+}
+
+/** The sample made worse: some frames are lost, and said to be. */
+async function worse(browser) {
+  await set(browser, 'lost', '12');
+  await set(browser, 'noise', '60');
+  await says(browser, /^Noise: 60 % of the signal$/, 'noise-label');
+  await browser.click('#sample');
+  await browser.until('document.body.dataset.settled');
+  await says(browser, /^Done\. 458 of 470 blocks of data \(frames\) were received; 12 were too damaged\./);
+}
+
+/** A page with received files warns before it is closed, until they were saved; the sample can be had again. */
+async function warning(browser) {
+  if (browser.name !== 'Chromium') return '';
+  const warned = async () => {
+    browser.warnings.length = 0;
+    await opened(browser);
+    return browser.warnings.includes('beforeunload');
+  };
+  await browser.click('#sample');
+  await browser.until('document.body.dataset.settled');
+  check(!(await warned()), 'none for the sample');
+  await given(browser, place('recording'));
+  await browser.click('#save-shelf');
+  await browser.saved(/\.shelf$/);
+  check(!(await warned()), 'none after the shelf was saved');
+  await given(browser, place('recording'));
+  check(await warned(), 'one for what was received');
+  return '';
+}
+
+/** Many large pictures: their memory, two of them compared, and all played. */
+async function pictures(browser) {
+  const before = browser.memory();
+  const from = Date.now();
+  await given(browser, place('pictures.shelf'), 300);
+  const seconds = ((Date.now() - from) / 1000).toFixed(0);
+  check((await countOf(browser, '#pictures figure')) === 40, 'forty pictures are listed');
+  const first = await browser.evaluate("document.querySelector('#pictures figcaption').textContent");
+  check(/09:45 UTC/.test(first), `the newest stands first: ${first}`);
+  await browser.evaluate("document.getElementById('files-section').scrollIntoView()");
+  await openPicture(browser);
+  await set(browser, 'view-compare', '0');
+  await browser.until("!document.getElementById('view-wipe-box').hidden");
+  await pause(3000);
+  const [left, right] = [await shownAt(browser, 0.49, 0.5), await shownAt(browser, 0.51, 0.5)];
+  check(left !== right, `two pictures stand side by side: ${left}`);
+  await set(browser, 'view-compare', '');
+  await browser.click('#view-play');
+  const title = "document.getElementById('viewer-title').textContent";
+  const shown = await browser.evaluate(title);
+  await browser.until(`${title} !== ${JSON.stringify(shown)}`, 120);
+  const memory = browser.memory() - before;
+  await browser.click('#view-play');
+  check((await browser.evaluate(title)) === shown, 'the picture stands there again');
+  check(memory < MOST_BROWSER_MEMORY, `${memory} bytes`);
+  return `40 pictures of 5,424 columns in ${seconds} s with ${(memory / 1e6).toFixed(0)} MB`;
+}
+
 /** Images that lack packets are filled in, and captioned so; without the setting they don't appear. */
 async function lacking(browser) {
   const recording = fs.readFileSync(place('lacking'));
@@ -253,6 +427,7 @@ const OTHERS = [
   ['noise', /^Nothing that this receiver knows was found in the file\./],
   ['none', /^The file is empty\.$/],
   ['part', /^Done\./],
+  ['other.zip', /^There is no LRIT or HRIT file in it\.$/],
   ['other.jpeg', /^This is a JPEG picture, not a recording\.$/],
   ['other.pdf', /^This is a PDF document, not a recording\.$/],
   ['other.wav', /^This seems to be a recording of the radio itself/],
@@ -482,9 +657,16 @@ async function commands(browser) {
   return `${answers.length} commands by lr_run and lr_live`;
 }
 
+/** Opens the first picture, in any language. */
+async function openPictureIn(browser) {
+  await browser.click('#pictures .thumb');
+  await browser.until("!document.getElementById('view-lost').disabled || document.getElementById('viewer').open");
+  await pause(1000);
+}
+
 /** What is seen on screens of each kind, and in each language. */
 async function screens(browser) {
-  const wide = { width: 1100, height: 1500 };
+  const wide = { width: 1400, height: 1500 };
   const languages = { german: 'de', spanish: 'es', french: 'fr' };
   const others = Object.entries(languages).map(([name, language]) => [name, { ...wide, language }]);
   const phone = { width: 390, height: 844, isPhone: true };
@@ -496,7 +678,16 @@ async function screens(browser) {
     await browser.until('document.body.dataset.settled');
     await browser.until("document.getElementById('quality').dataset.isWhole === 'true'");
     await pause(300);
-    await browser.picture(path.join(shots, `${browser.name.toLowerCase()}-${name}.png`));
+    const shoot = (what) => browser.picture(path.join(shots, `${browser.name.toLowerCase()}-${name}${what}.png`));
+    await shoot('');
+    await browser.evaluate("document.getElementById('layers-box').open = true");
+    await browser.until("document.querySelector('#layers h3') !== null");
+    await browser.evaluate("document.getElementById('layers-section').scrollIntoView()");
+    await pause(300);
+    await shoot('-layers');
+    await openPictureIn(browser);
+    await shoot('-viewer');
+    await browser.click('#view-close');
     const root = 'document.documentElement';
     const isDark = await browser.evaluate("matchMedia('(prefers-color-scheme: dark)').matches");
     check(isDark === Boolean(kind.isDark), `${name}: dark is ${isDark}`);
@@ -532,8 +723,8 @@ for (const name of names) {
   const browser = await kinds[name].start();
   const isChromium = name === 'chromium';
   try {
-    const shown = [sample, chosen, radio, lacking, shelf, zip, forms, others, settings, hostile, strips, screens, keyboard];
-    const all = [commands, ...shown, served, live, long];
+    const shown = [sample, chosen, radio, worse, viewing, layers, lacking, shelf, files, zip, forms, others, settings];
+    const all = [commands, ...shown, hostile, strips, screens, keyboard, warning, pictures, served, live, long];
     const parts = all.filter((it) => !process.env.PARTS || process.env.PARTS.split(' ').includes(it.name));
     for (const part of parts) {
       fs.rmSync(browser.downloads, { recursive: true });

@@ -40,7 +40,8 @@ const SEQUENCE = (() => {
   for (let at = 0; bits.length < 8 * WORDS * WORD_BYTES; at += 1) {
     bits.push(bits[at + 7] ^ bits[at + 5] ^ bits[at + 3] ^ bits[at]);
   }
-  return Uint8Array.from({ length: WORDS * WORD_BYTES }, (_, at) => parseInt(bits.slice(8 * at, 8 * at + 8).join(''), 2));
+  const byteAt = (/** @type {number} */ at) => parseInt(bits.slice(8 * at, 8 * at + 8).join(''), 2);
+  return Uint8Array.from({ length: WORDS * WORD_BYTES }, (_, at) => byteAt(at));
 })();
 
 /**

@@ -67,22 +67,29 @@ function marksOf({ buckets, isCounted }) {
 }
 
 /**
+ * @param {number} x
+ * @param {number} y
+ * @param {'start' | 'middle' | 'end'} anchor
+ * @param {string} inside
+ */
+const label = (x, y, anchor, inside) => shape('text', { x, y, 'text-anchor': anchor }, inside);
+
+/**
  * The axes with their numbers: frames below, corrected bytes on the left, the share of lost frames on the right.
  * @param {Quality} quality
  * @returns {SVGElement[]}
  */
 function axesOf({ frames, isCounted }) {
   const line = (/** @type {number[]} */ [x1, y1, x2, y2]) => shape('line', { class: 'axis', x1, y1, x2, y2 });
-  const word = (/** @type {number} */ x, /** @type {number} */ y, /** @type {string} */ anchor, /** @type {string} */ it) =>
-    shape('text', { x, y, 'text-anchor': anchor }, it);
+
   const ticks = Array.from({ length: TICKS + 1 }, (_, at) => {
     const number = String(Math.round((frames * at) / TICKS));
-    return word(LEFT + ((EDGE - LEFT) * at) / TICKS, BASE + 15, at < TICKS ? 'middle' : 'end', number);
+    return label(LEFT + ((EDGE - LEFT) * at) / TICKS, BASE + 15, at < TICKS ? 'middle' : 'end', number);
   });
-  const left = isCounted ? [] : [word(LEFT - 6, TOP + 10, 'end', String(LIMIT)), word(LEFT - 6, BASE, 'end', '0')];
-  const right = [word(EDGE + 6, TOP + 10, 'start', '100 %'), word(EDGE + 6, BASE, 'start', '0 %')];
+  const left = isCounted ? [] : [label(LEFT - 6, TOP + 10, 'end', String(LIMIT)), label(LEFT - 6, BASE, 'end', '0')];
+  const right = [label(EDGE + 6, TOP + 10, 'start', '100 %'), label(EDGE + 6, BASE, 'start', '0 %')];
   const lines = [[LEFT, BASE, EDGE, BASE], [LEFT, TOP, LEFT, BASE], [EDGE, TOP, EDGE, BASE]].map(line);
-  return [...lines, ...ticks, ...left, ...right, word((LEFT + EDGE) / 2, BASE + 32, 'middle', text('quality.axis'))];
+  return [...lines, ...ticks, ...left, ...right, label((LEFT + EDGE) / 2, BASE + 32, 'middle', text('quality.axis'))];
 }
 
 /**
@@ -95,8 +102,8 @@ function axesOf({ frames, isCounted }) {
 export function curveOf(quality, choose, seconds) {
   const { buckets, total, isCounted } = quality;
   const said = saidOf(total, isCounted);
-  const label = said.map(({ key, values }) => text(key, values)).join(' ');
-  const svg = shape('svg', { viewBox: `0 0 ${WIDTH} ${HEIGHT}`, role: 'img', 'aria-label': label });
+  const name = said.map(({ key, values }) => text(key, values)).join(' ');
+  const svg = shape('svg', { viewBox: `0 0 ${WIDTH} ${HEIGHT}`, role: 'img', 'aria-label': name });
   svg.append(...marksOf(quality), ...axesOf(quality));
   svg.onclick = ({ clientX }) => {
     const { left, width } = svg.getBoundingClientRect();
@@ -105,7 +112,8 @@ export function curveOf(quality, choose, seconds) {
   };
   const words = element('p', {});
   for (const { key, values } of said) words.append(...rich(key, values), ' ');
-  if (seconds) words.append(text('quality.seconds', { count: Math.round(seconds), rate: RATE.toLocaleString(used()) }), '.');
+  const rate = RATE.toLocaleString(used());
+  if (seconds) words.append(text('quality.seconds', { count: Math.round(seconds), rate }), '.');
   const legend = rich(isCounted ? 'quality.legend.counters' : 'quality.legend');
   return [svg, words, element('p', { className: 'small' }, ...legend)];
 }

@@ -18,8 +18,8 @@ const LEAST_VALUE = -127;
 
 /**
  * @typedef {import('./windows.mjs').Window} Window
- * @typedef {{start: number, application: number, part: number, count: number, size: number, isIdle: boolean}} Packet part:
- *   0 middle, 1 first, 2 last, 3 all of a file; size: of its data field, in bytes
+ * @typedef {{start: number, application: number, part: number, count: number, size: number, isIdle: boolean}} Packet
+ *   part: 0 middle, 1 first, 2 last, 3 all of a file; size: of its data field, in bytes
  * @typedef {object} Frame
  * @property {Int8Array} values the numbers, as they were heard
  * @property {number} hits numbers of the marker that agree

@@ -262,14 +262,16 @@ export class Keeper {
     for (const { number, segment } of group.parts) {
       const file = this.file(number);
       const picture = file && (await pictureOf(this.station, file));
-      if (picture) parts.push({ segment, picture, size: picture, lost: lostLines(file) });
+      if (picture) parts.push({ segment, picture, lost: lostLines(file) });
       if (picture && !segment) break;
     }
     const [one] = parts;
     const known = parts.flatMap(({ segment, picture }) => (segment ? [{ segment, picture }] : []));
     const picture = one && !one.segment ? one.picture : known.length ? joinedPicture(known) : null;
     if (!picture) return null;
-    const pieces = parts.map(({ segment, size: { columns, lines }, lost }) => ({ segment, size: { columns, lines }, lost }));
+    const pieces = parts.map(({ segment, lost, picture: it }) => {
+      return { segment, lost, size: { columns: it.columns, lines: it.lines } };
+    });
     return { picture, lost: lostAreas(pieces, picture) };
   }
 
@@ -436,7 +438,7 @@ export class Keeper {
    * @param {import('./search.mjs').Chosen} chosen
    */
   which(file, chosen) {
-    const read = (/** @type {number} */ start, /** @type {number} */ count) => bytesOf(file.slice(start, start + count));
+    const read = (/** @type {number} */ at, /** @type {number} */ count) => bytesOf(file.slice(at, at + count));
     const trying = (/** @type {import('./search.mjs').Trying} */ it) => this.tell({ kind: 'trying', ...it });
     const told = (/** @type {import('./search.mjs').Try} */ it) => this.tell({ kind: 'tried', ...it });
     const answer = which(this.station, file.size, read, chosen, trying, told);

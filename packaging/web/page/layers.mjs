@@ -136,7 +136,8 @@ export class Layers {
     }
     const all = [...found.values()];
     const lines = all.flatMap(({ file, from, to }) => this.lines(file, from, to) ?? []);
-    return { files: all.map(({ file }) => saidOfFile(file)), lines: lines.map((values) => ({ key: 'lines.text', values })) };
+    const files = all.map(({ file }) => saidOfFile(file));
+    return { files, lines: lines.map((values) => ({ key: 'lines.text', values })) };
   }
 
   /**
@@ -146,7 +147,8 @@ export class Layers {
    */
   nextPicture(number) {
     const pictures = new Set(this.keeper.groups.all.flatMap((it) => it.parts.map((part) => part.number)));
-    const fronts = this.all().flatMap(([at, it]) => (pictures.has(at) && it.frames ? [{ ...it, frames: it.frames }] : []));
+    const all = this.all().filter(([at]) => pictures.has(at));
+    const fronts = all.flatMap(([, it]) => (it.frames ? [{ ...it, frames: it.frames }] : []));
     for (let next = number + 1, tries = 0; next < this.reader.windows.length && tries < MOST_BACK; next += 1) {
       const here = fronts.filter(({ frames }) => next <= frames[1] && next >= frames[0]);
       if (!here.length) continue;
@@ -251,8 +253,9 @@ export class Layers {
       const before = parts.filter((it) => it.frames[1] < number).map((it) => it.segment.number);
       const after = parts.filter((it) => it.frames[0] > number).map((it) => it.segment.number);
       const place = before.length ? Math.max(...before) + 1 : after.length ? Math.min(...after) - 1 : -1;
-      const isThere = !one || place < 0 || place >= one.segment.total || parts.some((it) => it.segment.number === place);
-      const file = isThere ? null : this.keeper.file(one.at);
+      const isInside = one && place >= 0 && place < one.segment.total;
+      const isThere = parts.some((it) => it.segment.number === place);
+      const file = isInside && !isThere ? this.keeper.file(one.at) : null;
       const lines = file?.header && structureOf(file.header)?.lines;
       if (!lines) return [];
       const values = { name: group.name, first: place * lines + 1, last: (place + 1) * lines };

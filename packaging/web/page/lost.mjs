@@ -10,8 +10,8 @@ const MOST_BESIDE = 64; // of a band of lines that are looked at for the next on
  * @typedef {import('./segments.mjs').Segment} Segment
  * @typedef {import('./paint.mjs').Area} Area
  * @typedef {{columns: number, lines: number}} Size
- * @typedef {{segment: Segment | null, size: Size, lost: [number, number][]}} Piece a file of a picture, its size and the
- *   runs of lines that it lacks
+ * @typedef {{segment: Segment | null, size: Size, lost: [number, number][]}} Piece a file of a picture, its size and
+ *   the runs of lines that it lacks
  */
 
 /**
@@ -96,7 +96,9 @@ function uncovered(areas, { columns, lines }) {
     const top = edges[place - 1];
     while (waiting.length && waiting[waiting.length - 1].top <= top) here.push(/** @type {Area} */ (waiting.pop()));
     here = here.filter((it) => it.top + it.lines > top);
-    for (const [left, right] of gapsOf(here, columns)) addBand(found, { left, top, columns: right - left, lines: edges[place] - top });
+    for (const [left, right] of gapsOf(here, columns)) {
+      addBand(found, { left, top, columns: right - left, lines: edges[place] - top });
+    }
   }
   return found;
 }

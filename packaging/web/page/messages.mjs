@@ -29,7 +29,8 @@
  * @typedef {{kind: 'save', id: number}} Save
  * @typedef {{kind: 'saveFile', number: number, member: number}} SaveFile member: -1 for the file as it was received
  * @typedef {{kind: 'end' | 'more' | 'saveAll' | 'saveShelf'}} Plain
- * @typedef {Load | Which | Transmit | Receive | Judge | Keep | Windows | AskLayers | Open | Give | Look | Save | SaveFile | Plain} Task
+ * @typedef {Load | Which | Transmit | Receive | Judge | Keep | Windows | AskLayers | Open | Give | Look | Save
+ *   | SaveFile | Plain} Task
  *
  * What it tells.
  * @typedef {{kind: 'did', task: string}} Did

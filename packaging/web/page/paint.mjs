@@ -113,7 +113,8 @@ export function paint(screen, seen, look, tint, from = 0, to = screen.width) {
   const mean = meanOf(seen, tint);
   for (let line = 0; line < screen.height; line += 1) {
     const row = rows.subarray(line * count, (line + 1) * count);
-    for (let column = from; column < to; column += 1) screen.words[line * screen.width + column] = mean(row, parts[column]);
+    const start = line * screen.width;
+    for (let column = from; column < to; column += 1) screen.words[start + column] = mean(row, parts[column]);
   }
 }
 

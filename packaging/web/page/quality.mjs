@@ -43,7 +43,9 @@ export class Curve {
    */
   take(line) {
     const words = line.split(' ');
-    if (words[0] === 'frame' && words[4] === 'counter') this.count(Number(words[1]), Number(words[3]), Number(words[5]));
+    if (words[0] === 'frame' && words[4] === 'counter') {
+      this.count(Number(words[1]), Number(words[3]), Number(words[5]));
+    }
     if (words[0] !== 'window' || words.length < 8) return;
     const isLost = words[6] === 'lost';
     const numbers = isLost ? [] : words.slice(7, 11).map(Number);

@@ -1,5 +1,5 @@
-// What happens, layer by layer, to one frame of the recording: its numbers as dots, its marker, its bytes with those that
-// were corrected, its packets, the files that they make and their lines; and what was lost with a frame that is lost.
+// What happens, layer by layer, to one frame of the recording: its numbers as dots, its marker, its bytes with those
+// that were corrected, its packets, the files that they make and their lines; and what was lost with a lost frame.
 import { at, element } from './elements.mjs';
 import { nodesOf, rich, text } from './words.mjs';
 
@@ -169,7 +169,9 @@ function wordsOfByte({ before, after }, place) {
 }
 
 /** @type {[Key, string][]} the parts of a block and their colours */
-const PARTS_OF_BLOCK = [['frame.head', 'good'], ['frame.data', 'accent'], ['frame.extra', 'line'], ['frame.wrong', 'bad']];
+const PARTS_OF_BLOCK = [
+  ['frame.head', 'good'], ['frame.data', 'accent'], ['frame.extra', 'line'], ['frame.wrong', 'bad'],
+];
 
 function legend() {
   const items = PARTS_OF_BLOCK.map(([key, name]) => {

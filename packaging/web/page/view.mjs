@@ -138,7 +138,8 @@ export class View {
     const saves = /** @type {const} */ ({ kind: 'save', id });
     const entry = this.entry(`${id}`, { id, name, stamp, seen, image: null, saves });
     if (seen) {
-      this.fill(entry, canvasOf(picture, seen), [text('picture.size', { columns: seen.columns, lines: seen.lines })], picture);
+      const size = text('picture.size', { columns: seen.columns, lines: seen.lines });
+      this.fill(entry, canvasOf(picture, seen), [size], picture);
       return;
     }
     const words = note && note !== 'picture.none' ? [text('picture.none'), ' ', text(note)] : [text('picture.none')];
@@ -209,8 +210,8 @@ export class View {
     const { open } = this;
     const isPicture = Boolean(entry.seen || entry.image);
     const caption = element('figcaption', {}, ...captionOf([name, stamp, ...words], about));
-    const label = text('view.saves', { name });
-    if (isPicture) caption.append(button(text(entry.image ? 'files.save' : 'view.save'), label, () => this.ask(entry.saves)));
+    const saves = text(entry.image ? 'files.save' : 'view.save');
+    if (isPicture) caption.append(button(saves, text('view.saves', { name }), () => this.ask(entry.saves)));
     if (!isPicture || !open) {
       figure.replaceChildren(shown, caption);
       return;

@@ -434,7 +434,8 @@ export class Viewer {
     context.putImageData(image, 0, 0);
     Object.assign(context, { fillStyle: '#000' });
     context.fillRect(0, height, width, high);
-    Object.assign(context, { fillStyle: '#fff', font: `${Math.round(high * 0.6)}px sans-serif`, textBaseline: 'middle' });
+    const font = `${Math.round(high * 0.6)}px sans-serif`;
+    Object.assign(context, { fillStyle: '#fff', font, textBaseline: 'middle' });
     context.fillText(title.join(' · '), high / 3, height + high / 2, width - (2 * high) / 3);
     return canvas;
   }

@@ -125,7 +125,8 @@ function mendedText(text) {
     const [first, last] = run.split('-').map(Number);
     return [first, (last ?? first) + 1];
   });
-  const isInOrder = runs.every(([first, end], at) => (at ? runs[at - 1][1] : 0) <= first && first < end && end <= packets);
+  const before = (/** @type {number} */ at) => (at ? runs[at - 1][1] : 0);
+  const isInOrder = runs.every(([first, end], at) => before(at) <= first && first < end && end <= packets);
   const fillers = runs.reduce((sum, [first, end]) => sum + end - first, 0);
   return isInOrder && fillers <= MOST_FILLERS ? { fillers, packets, runs } : null;
 }

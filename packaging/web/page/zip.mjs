@@ -113,7 +113,8 @@ function isFile({ name, mode }) {
 function packedBytes(bytes, entry) {
   const view = viewOf(bytes);
   const { place } = entry;
-  if (place + LOCAL_BYTES > bytes.length || view.getUint32(place, true) !== LOCAL) throw new BadZip('note.zip.unreadable');
+  const isThere = place + LOCAL_BYTES <= bytes.length && view.getUint32(place, true) === LOCAL;
+  if (!isThere) throw new BadZip('note.zip.unreadable');
   const start = place + LOCAL_BYTES + view.getUint16(place + 26, true) + view.getUint16(place + 28, true);
   if (start + entry.packed > bytes.length) throw new BadZip('note.zip.unreadable');
   return bytes.subarray(start, start + entry.packed);

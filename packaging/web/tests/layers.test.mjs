@@ -23,10 +23,12 @@ for seed, wrong in enumerate([[0, 0, 0, 0], [3, 0, 16, 7], [16, 16, 16, 16], [1,
     sent = line_codes.MARKER + bits + line_codes.MARKER[:6]
     symbols = [line_codes.code(inverted, [0] * 6, line_codes.levels(marks, 0, sent))
         for marks in (False, True) for inverted in (1, 0)]
-    found.append({"wrong": wrong, "frame": frame, "block": block, "symbols": symbols, "answer": blocks.outcome(block)[:2]})
+    answer = blocks.outcome(block)[:2]
+    found.append({"wrong": wrong, "frame": frame, "block": block, "symbols": symbols, "answer": answer})
 print(json.dumps(found))
 `;
-const drawn = spawnSync('python3', ['-c', DRAW], { env: { ...process.env, PYTHONPATH: REFERENCE }, maxBuffer: 1 << 28 });
+const env = { ...process.env, PYTHONPATH: REFERENCE };
+const drawn = spawnSync('python3', ['-c', DRAW], { env, maxBuffer: 1 << 28 });
 const CASES = JSON.parse(drawn.stdout.toString());
 
 test('bits of each line code, with some wrong numbers', () => {
@@ -61,7 +63,8 @@ function frameOf(channel, counter, packets, pointer = 0) {
   const heads = packets.map(([application, part, count, size]) =>
     [...big(application, 2), ...big((part << 14) | count, 2), ...big(size - 1, 2), ...new Array(size).fill(0)]);
   const head = [...big(0x4000 | channel, 2), ...big(counter, 3), 0, ...big(pointer, 2)];
-  const bytes = Uint8Array.from({ length: 1020 }, (_, at) => [...head, ...new Array(pointer % 2046).fill(0), ...heads.flat()][at] ?? 0);
+  const zone = [...head, ...new Array(pointer % 2046).fill(0), ...heads.flat()];
+  const bytes = Uint8Array.from({ length: 1020 }, (_, at) => zone[at] ?? 0);
   return { channel, counter, after: bytes, isFill: channel === 63, packets: channel === 63 ? [] : packetsIn(bytes) };
 }
 
@@ -77,17 +80,19 @@ test('packets that begin in a frame', () => {
 test('a line of decode', () => {
   const restored = { at: 16384, isInverted: true, lost: -1, corrected: [1, 2, 3, 255] };
   assert.deepEqual(windowOfLine('window 1 at 16384 polarity - restored 1 2 3 255'), restored);
-  assert.deepEqual(windowOfLine('window 0 at 7 polarity + lost 2'), { at: 7, isInverted: false, lost: 2, corrected: [] });
+  const lost = { at: 7, isInverted: false, lost: 2, corrected: [] };
+  assert.deepEqual(windowOfLine('window 0 at 7 polarity + lost 2'), lost);
   assert.equal(windowOfLine('symbols 16384 frames 1 restored 1 lost 0 left 0 stop end'), null);
 });
 
 /** An image of ten lines of 100 columns, whose header is a packet and each of its lines another. */
 function imageItem(frames, mark, number = 0) {
-  const segment = record(128, [...big(1, 2), ...big(number, 2), ...big(0, 2), ...big(10 * number, 2), ...big(2, 2), ...big(100, 2), ...big(20, 2)]);
+  const segment = record(128, [1, number, 0, 10 * number, 2, 100, 20].flatMap((it) => big(it, 2)));
   const structure = record(1, [8, ...big(100, 2), ...big(10, 2), 0]);
   const texts = mark ? [record(6, bytesOf(`gomtasil mended ${mark} of 11`))] : [];
   const proper = missionFile(0, [structure, record(4, bytesOf('EARTH')), segment, ...texts], new Array(1000).fill(9));
-  return packedItem(proper, [10 + proper.length - 1000, ...new Array(10).fill(100)], { channel: 13, application: 313, frames });
+  const sizes = [10 + proper.length - 1000, ...new Array(10).fill(100)];
+  return packedItem(proper, sizes, { channel: 13, application: 313, frames });
 }
 
 /** The layers of frames, of which null is a lost one, beside a shelf of items. */
@@ -98,8 +103,8 @@ function layersOf(frames, items) {
   const groups = new Groups();
   for (const number of heads.keys()) groups.add(file(number));
   const lost = { channel: -1, after: null, packets: [], isFill: false };
-  const reader = { windows: frames.map(() => ({})), frame: (number) => (number in frames ? (frames[number] ?? lost) : null) };
-  return new Layers(reader, { shelf, heads, file, groups });
+  const frame = (number) => (number in frames ? (frames[number] ?? lost) : null);
+  return new Layers({ windows: frames.map(() => ({})), frame }, { shelf, heads, file, groups });
 }
 
 const start = frameOf(13, 100, [[313, 1, 16383, 200], [313, 0, 0, 102], [313, 0, 1, 102]]);

@@ -8,7 +8,8 @@ import { checksum, endsOf, fileOf, fileOfBytes, hasItsChecksum, itemOfBytes } fr
 import { ZipWriter } from '../page/zip.mjs';
 import { PlainStation, big, bytesOf, missionFile, packedItem, record } from './support.mjs';
 
-const structure = (columns, lines, compression = 0) => record(1, [8, ...big(columns, 2), ...big(lines, 2), compression]);
+const structure = (columns, lines, compression = 0) =>
+  record(1, [8, ...big(columns, 2), ...big(lines, 2), compression]);
 const mark = (words) => record(6, bytesOf(`gomtasil mended ${words}`));
 
 /** A file whose header is one packet, and each line of its data another. */
@@ -76,7 +77,8 @@ test('an image whose packets are coded is none without their bounds', async () =
   const file = fileOfBytes(missionFile(0, [structure(3, 2, 1), record(131, [0, 0x20, 16, 1])], [1, 2, 3]), 0);
   assert.ok(isWithoutBounds(file));
   assert.equal(await pictureOf(new PlainStation(), file), null);
-  assert.ok(!isWithoutBounds(fileOf(packedItem(file.proper, [10 + file.proper.length]), 0)), 'on a shelf they are known');
+  const stored = fileOf(packedItem(file.proper, [10 + file.proper.length]), 0);
+  assert.ok(!isWithoutBounds(stored), 'on a shelf they are known');
 });
 
 test('files alone and in zips, and others that are left out', async () => {
@@ -84,8 +86,10 @@ test('files alone and in zips, and others that are left out', async () => {
   zip.add('a.lrit', missionFile(2, [], [65]));
   zip.add('b.txt', Uint8Array.of(66));
   const given = [new Uint8Array(await zip.end().arrayBuffer()), missionFile(2, [], [67, 68]), new Uint8Array(0)];
-  given.push(...['no such file', 'PK\x03\x04 and nothing that could be read'].map((it) => Uint8Array.from(bytesOf(it))));
-  const files = given.map((bytes) => ({ bytes, size: bytes.length, slice: (from, to) => ({ bytes: bytes.slice(from, to) }) }));
+  const others = ['no such file', 'PK\x03\x04 and nothing that could be read'];
+  given.push(...others.map((it) => Uint8Array.from(bytesOf(it))));
+  const slicing = (bytes) => (from, to) => ({ bytes: bytes.slice(from, to) });
+  const files = given.map((bytes) => ({ bytes, size: bytes.length, slice: slicing(bytes) }));
   const { found, left } = await missionFiles(files, (part) => part.bytes);
   assert.deepEqual([found.map((it) => it.size), left], [[17, 18], 4]);
 });

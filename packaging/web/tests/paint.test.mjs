@@ -20,12 +20,14 @@ function painted(width, height, picture, look, tint = PLAIN, from = 0, to = widt
 }
 
 test('the tables of colours are those of the tool', () => {
-  const line = 'from gomtasil import colours; print([[c for it in colours.table_of(n) for c in it] for n in colours.TABLES])';
+  const tables = '[[part for it in colours.table_of(name) for part in it] for name in colours.TABLES]';
+  const line = `from gomtasil import colours; print(${tables})`;
   const { stdout } = spawnSync('python3', ['-c', line], { env: { ...process.env, PYTHONPATH: TOOLS } });
   const wanted = JSON.parse(stdout.toString());
   assert.deepEqual(TABLES, ['grey', 'ir', 'wv', 'heat']);
   for (const [place, name] of TABLES.slice(1).entries()) {
-    const found = [...tableOf({ ...PLAIN, table: name })].flatMap((it) => [it & 255, (it >> 8) & 255, (it >> 16) & 255]);
+    const table = [...tableOf({ ...PLAIN, table: name })];
+    const found = table.flatMap((it) => [it & 255, (it >> 8) & 255, (it >> 16) & 255]);
     const apart = found.map((it, at) => Math.abs(it - wanted[place][at]));
     assert.ok(Math.max(...apart) <= 1, `${name}: ${Math.max(...apart)}`); // (they round halves in their own ways)
   }
@@ -35,8 +37,10 @@ test('light and contrast', () => {
   assert.deepEqual([...tableOf(PLAIN)], Array.from({ length: 256 }, (_, it) => grey(it)));
   const levels = (tint, most) => [...tableOf({ ...PLAIN, ...tint }, most)].map((it) => it & 255);
   assert.ok(levels({ light: 100 }).every((it, at) => it >= at));
-  assert.deepEqual([levels({ contrast: 50 })[64], levels({ contrast: 50 })[128], levels({ contrast: 50 })[192]], [1, 129, 255]);
-  assert.deepEqual(levels({}, 1023).filter((_, at) => at % 341 === 0), [0, 85, 170, 255], 'ten bits have as many values');
+  const steep = levels({ contrast: 50 });
+  assert.deepEqual([steep[64], steep[128], steep[192]], [1, 129, 255]);
+  const tenBits = levels({}, 1023);
+  assert.deepEqual([0, 341, 682, 1023].map((it) => tenBits[it]), [0, 85, 170, 255]);
   assert.equal(tinting(PLAIN)(0xff102030), 0xff102030, 'a picture in colour stays as it was sent');
   assert.equal(tinting({ ...PLAIN, table: 'ir' })(0xff000000), tableOf({ ...PLAIN, table: 'ir' })[0]);
 });
@@ -46,7 +50,8 @@ test('a picture at its own size, enlarged, and made smaller', () => {
   assert.deepEqual(painted(2, 2, picture, { x: 0, y: 0, scale: 1 }), [0, 100, 200, 40].map(grey));
   assert.deepEqual(painted(4, 1, picture, { x: 0, y: 0, scale: 2 }), [0, 0, 100, 100].map(grey));
   assert.deepEqual(painted(1, 1, picture, { x: 0, y: 0, scale: 0.5 }), [grey(85)], 'the mean');
-  assert.deepEqual(painted(3, 1, picture, { x: -1, y: 1, scale: 1 }), [0, grey(200), grey(40)], 'nothing stands outside');
+  const beside = painted(3, 1, picture, { x: -1, y: 1, scale: 1 });
+  assert.deepEqual(beside, [0, grey(200), grey(40)], 'nothing stands outside');
   assert.deepEqual(painted(3, 1, seen(3, 1, [1, 2, 3]), { x: 0, y: 0, scale: 1 }, PLAIN, 1, 2), [0, grey(2), 0]);
 });
 
@@ -89,6 +94,7 @@ test('noise and lost frames: the same for one seed, and of the strength that is 
   const deviation = Math.sqrt(errors.reduce((sum, it) => sum + it * it, 0) / errors.length);
   assert.ok(Math.abs(deviation / 32 - 0.8) < 0.02, `${deviation}`);
   const lost = worsened(clean, { noise: 0, lost: 1, seed: 2 });
-  const changed = [0, 1, 2].map((frame) => lost.subarray(frame * 16384, (frame + 1) * 16384).some((it) => it !== 64 && it !== 192));
+  const frames = [0, 1, 2].map((it) => lost.subarray(it * 16384, (it + 1) * 16384));
+  const changed = frames.map((frame) => frame.some((it) => it !== 64 && it !== 192));
   assert.equal(changed.filter(Boolean).length, 1);
 });
