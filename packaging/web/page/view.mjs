@@ -237,7 +237,7 @@ function isBefore(one, other) {
  * @param {About} about
  */
 function captionOf(words, about) {
-  const lacks = lacksOf(about).map((it) => element('p', { className: 'lacks' }, ...nodesOf(it)));
+  const lacks = lacksOf(about).flatMap((it) => [' ', element('p', { className: 'lacks' }, ...nodesOf(it))]);
   return [element('p', { textContent: words.filter(Boolean).join(' · ') }), ...lacks];
 }
 
