@@ -91,7 +91,7 @@ export function isReadable(bytes, ending) {
 async function readPicture(bytes, kind) {
   if (!isReadable(bytes, kind.ending)) return null;
   try {
-    const image = await createImageBitmap(new Blob([/** @type {any} */ (bytes)], { type: kind.type }));
+    const image = await createImageBitmap(new Blob([/** @type {BlobPart} */ (bytes)], { type: kind.type }));
     const canvas = new (/** @type {any} */ (globalThis).OffscreenCanvas)(image.width, image.height);
     const context = canvas.getContext('2d');
     context.drawImage(image, 0, 0);

@@ -10,7 +10,7 @@ const DRAWN = 1 << 16; // numbers of the noise, which are drawn once
  * @param {number} seed
  * @returns {() => number}
  */
-export function drawing(seed) {
+function drawing(seed) {
   let state = seed >>> 0;
   return () => {
     state = (state + 0x9e3779b9) >>> 0;

@@ -222,7 +222,7 @@ class Page {
     },
     trouble: ({ text: reason }) => this.say({ key: 'state.trouble', values: { reason } }, true),
     sample: ({ bytes }) =>
-      this.radio.isDrawn ? this.radio.draw(bytes) : this.startRecording(new Blob([/** @type {any} */ (bytes)])),
+      this.radio.isDrawn ? this.radio.draw(bytes) : this.startRecording(new Blob([/** @type {BlobPart} */ (bytes)])),
     modulated: ({ samples }) => this.radio.drawn(samples),
     seen: (seen) => this.radio.seen(seen),
     demodulated: (told) => this.radio.demodulated(told),

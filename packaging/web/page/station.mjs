@@ -2,9 +2,8 @@
 // a frame or a file of a shelf is.
 import { Heap } from './heap.mjs';
 
-export const NO_MEMORY = 256; // answers that are no status
-export const NO_TEXT = 257;
-export const NO_ROOM = 258;
+const NO_MEMORY = 256; // answers that are no status
+const NO_ROOM = 258;
 const OUTPUT_FAILED = 5;
 const DISK_FAILED = 4;
 const ERR_ROOM = 4096;

@@ -6,9 +6,8 @@ const MARKER_BITS = Array.from({ length: 32 }, (_, at) => (0x1acffc1d >>> (31 - 
 const STATES = 64; // the last six levels, the newest the most significant
 const MEMORY = 6;
 const BLOCK_BITS = 8160;
-export const BLOCK_BYTES = BLOCK_BITS / 8;
 const PATH_BITS = BLOCK_BITS + MEMORY; // up to where the next marker tells the state
-export const MARKER_SYMBOLS = 64;
+const MARKER_SYMBOLS = 64;
 const UNTOLD = 12; // symbols at a frame's front that depend on the frame before
 const LEAST = -127;
 
