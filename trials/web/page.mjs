@@ -181,8 +181,7 @@ const shownAt = (browser, x, y) =>
 const set = (browser, id, value) =>
   browser.evaluate(`(() => {
     const it = document.getElementById('${id}');
-    if (it.type === 'checkbox') it.checked = ${value};
-    else it.value = '${value}';
+    it[it.type === 'checkbox' ? 'checked' : 'value'] = ${JSON.stringify(value)};
     it.dispatchEvent(new Event('input'));
     it.dispatchEvent(new Event('change'));
   })()`);

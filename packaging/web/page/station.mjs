@@ -2,7 +2,7 @@
 // a frame or a file of a shelf is.
 import { Heap } from './heap.mjs';
 
-const NO_MEMORY = 256; // answers that are no status
+export const NO_MEMORY = 256; // answers that are no status
 const NO_ROOM = 258;
 const OUTPUT_FAILED = 5;
 const DISK_FAILED = 4;
