@@ -21,7 +21,7 @@ for seed, wrong in enumerate([[0, 0, 0, 0], [3, 0, 16, 7], [16, 16, 16, 16], [1,
     frame, block = blocks.received(seed, wrong)
     bits = [byte >> (7 - at) & 1 for byte in block for at in range(8)]
     sent = line_codes.MARKER + bits + line_codes.MARKER[:6]
-    symbols = [line_codes.code(inverted, [0] * 6, line_codes.levels(marks, 0, sent))
+    symbols = [line_codes.coded([0] * 6 + line_codes.levels_of(sent, marks), inverted)
         for marks in (False, True) for inverted in (1, 0)]
     answer = blocks.outcome(block)[:2]
     found.append({"wrong": wrong, "frame": frame, "block": block, "symbols": symbols, "answer": answer})
