@@ -141,11 +141,8 @@ prove_below() {
 outside() {
     crate=${1##*/}
     made=$scratch/$crate/out
-    mkdir -p "$scratch/$crate/src" "$made" && cp "$1/crates.in" "$scratch/program.txt" || return 1
-    for part in "$1/src/"*.in; do
-        name=${part##*/}
-        cp "$part" "$scratch/$crate/src/${name%.in}" || return 1
-    done
+    cp -R "$1" "$scratch/" && mkdir -p "$made" && mv "$scratch/$crate/crates.in" "$scratch/program.txt" || return 1
+    find "$scratch/$crate" -name '*.in' -exec sh -c 'for part; do mv "$part" "${part%.in}" || exit 1; done' sh {} +
 }
 
 # Sets $kit, the kit's folder.

@@ -1,6 +1,5 @@
 -- A call over bytes that the caller lends: what the station does to a source, a disk and two sinks that hold them.
-use Rattle.std.specs.List.{slice_split}
-use Rattle.std.specs.Prelude.{◌≡◌, ◌==◌, ◌⊎◌, ◌<◌, ◌++◌, ℕ, None, IsTrue, List, [], length, drop}
+use Rattle.std.specs.Prelude.{◌≡◌, ◌⊎◌, ◌<◌, ◌++◌, ℕ, None, IsTrue, List, [], length, drop}
 use Rattle.lr_disk.specs.Disk.{Only}
 use Rattle.lr_disk.specs.MemDisk.{held_by as disk_bytes, room_of as disk_room, faults_of as disk_faults}
 use Rattle.lr_disk.specs.MemDisk.{images_by, calls_allowed, calls_made, bytes_written, failing_call}
@@ -12,10 +11,7 @@ use Rattle.lr_station.specs.Runs.{StationWorld, StationOutside, Stations}
 use Rattle.lr_embed.specs.declared.run.Counts.{Counts}
 use Rattle.lr_embed.specs.declared.source.LentSource.{LentSource}
 use Rattle.lr_words.specs.Commands.{command_of, runs_alone_by}
-
--- the words of a text, which stand in lines
-abbrev pub words_in : List ℕ → List (List ℕ)
-words_in text = slice_split (λ b. b == 10) text
+use Rattle.lr_words.specs.Lines.{no_memory, no_text_given}
 
 -- the bytes of a source that are left
 abbrev pub left_of_lent : LentSource → List ℕ
@@ -105,13 +101,7 @@ pub record HasRun (all : StationWorld LentSource MemDisk MemSink MemSink) (given
   pub has_told : GotBytes before.err after.err counts.err told
   pub has_left : GotBytes before.shelf after.shelf counts.shelf left
 
--- the answers that are no status: memory was refused, the words are no UTF-8, the shelf is longer than its room
-abbrev pub no_memory : ℕ
-no_memory = 256
-
-abbrev pub no_text_given : ℕ
-no_text_given = 257
-
+-- the shelf is longer than its room, which is no status either
 abbrev pub no_room : ℕ
 no_room = 258
 

@@ -7,7 +7,6 @@ mod run;
 mod source;
 #[cfg(test)]
 mod tests;
-mod words;
 
-pub use run::{Counts, lr_run};
+pub use run::{Counts, NO_ROOM, lr_run};
 pub use source::LentSource;

@@ -9,29 +9,22 @@ ghost use Rattle.lr_embed.specs.Lent.{
   RunsLent,
   lent_to_call,
   no_room,
-  no_text_given,
   rooms,
-  words_in,
 };
 ghost use Rattle.lr_io.specs.MemSink.{held_by as sink_bytes};
 ghost use Rattle.lr_station.specs.Runs.{world_and_err};
+ghost use Rattle.lr_words.specs.Lines.{no_text_given, words_in};
 
 use crate::source::LentSource;
-use crate::words::words_of;
 use lr_bits::NoMemory;
 use lr_disk::{Disk, MemDisk};
 use lr_io::{MemSink, Sink, Source};
 use lr_station::station_alone;
+use lr_words::{NO_MEMORY, NO_TEXT, words_of};
 use std::alloc::Global;
 
-/// Memory was refused before the station was called.
-const NO_MEMORY: u32 = 256;
-
-/// The words are no UTF-8.
-const NO_TEXT: u32 = 257;
-
-/// The shelf is longer than the room for it.
-const NO_ROOM: u32 = 258;
+/// The answer of a call whose shelf is longer than the room for it.
+pub const NO_ROOM: u32 = 258;
 
 /// How many bytes a call put into each of the three rooms.
 #[repr(C)]

@@ -1,5 +1,6 @@
 pub mod Arguments
 pub mod Commands
+pub mod Lines
 pub mod Numbers
 pub mod Shapes
 pub mod Values

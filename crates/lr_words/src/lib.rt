@@ -12,6 +12,7 @@ mod arguments;
 mod command;
 mod given;
 mod laws;
+mod lines;
 mod numbers;
 mod parsing;
 mod read;
@@ -20,4 +21,5 @@ mod values;
 
 pub use command::{Command, FileAction, FrameLines, IntakeAction, ShelfAction};
 pub use laws::only_writers_may_write;
+pub use lines::{NO_MEMORY, NO_TEXT, words_of};
 pub use read::{read_words, runs_alone, writes_shelf};

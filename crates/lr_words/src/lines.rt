@@ -1,9 +1,16 @@
-//! The words of a command, as a caller that isn't Rattle gives them.
+//! The words of a command in the lines of a text, as programs in other languages give them, and what such a call answers
+//! where it runs no command.
 ghost use Rattle.std.specs.Prelude.{◌≡◌, map, string_bytes, IfOk};
-ghost use Rattle.lr_embed.specs.Lent.{words_in};
+ghost use Rattle.lr_words.specs.Lines.{words_in};
 
 use lr_bits::NoMemory;
 use std::alloc::{AllocError, Global};
+
+/// The answer of a call that was refused memory before it ran the command. No status is above 255.
+pub const NO_MEMORY: u32 = 256;
+
+/// The answer of a call whose words aren't UTF-8.
+pub const NO_TEXT: u32 = 257;
 
 /// The lines of a text.
 fn lines_of(alloc: Global, text: &str) -> Result<Vec<&str>, AllocError>
@@ -23,8 +30,8 @@ fn owned(alloc: Global, lines: &[&str]) -> Result<Vec<String>, AllocError>
     Ok(words)
 }
 
-/// The words, which stand in lines.
-pub(crate) fn words_of(alloc: Global, text: &str) -> Result<Vec<String>, NoMemory>
+/// The words of this text, one in each line. Fails if memory is refused.
+pub fn words_of(alloc: Global, text: &str) -> Result<Vec<String>, NoMemory>
     ensures { IfOk result (λ words. map string_bytes words.items ≡ words_in text.now) }
 {
     let lines = lines_of(alloc, text)?;
