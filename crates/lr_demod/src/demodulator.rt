@@ -207,8 +207,8 @@ impl Demodulator {
         &self.soft[..symbols]
     }
 
-    /// The values across the phase of the last block's soft symbols, on the same scale: of a clean signal 0, and with it
-    /// the two are a constellation's point. Those after the symbols that it gave are older.
+    /// The values across the phase of the last block's soft symbols, on the same scale: 0 for a clean signal. A soft
+    /// symbol and this value are a point of the constellation. Those after the symbols that it gave are older.
     pub fn across(&self) -> &[i8]
         ensures { length result.now ≡ BLOCK_SAMPLES }
     {

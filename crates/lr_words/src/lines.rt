@@ -1,5 +1,5 @@
-//! The words of a command in the lines of a text, as programs in other languages give them, and what such a call answers
-//! where it runs no command.
+//! The words of a command in the lines of a text, as programs in other languages give them, and what such a call
+//! answers where it runs no command.
 ghost use Rattle.std.specs.Prelude.{◌≡◌, map, string_bytes, IfOk};
 ghost use Rattle.lr_words.specs.Lines.{words_in};
 
